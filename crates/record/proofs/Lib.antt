@@ -1,0 +1,5 @@
+pub mod Patterns
+pub mod Widths
+pub mod Questions
+pub mod ClauseTrips
+pub mod RecordTrips
