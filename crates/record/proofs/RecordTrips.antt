@@ -177,13 +177,13 @@ module _ (bs : List ℕ) (at : ℕ) (b : Bytes bs) where
       ap (λ (z : List ℕ). z ++ rest) e ∙ ap (λ (z : List ℕ). slice bs (at + o) j ++ z) f
       ∙ ap (λ (z : ℕ). slice bs (at + o) j ++ slice bs z k) (sym (add-assoc at o j)) ∙ slices bs (at + o) j k
 
-  field8 : (o k : ℕ) (rest : List ℕ) → at + o < length bs → rest ≡ slice bs (at + (o + 1)) k → getD bs (at + o) 0 ∷ rest ≡ slice bs (at + o) (1 + k)
+  pub field8 : (o k : ℕ) (rest : List ℕ) → at + o < length bs → rest ≡ slice bs (at + (o + 1)) k → getD bs (at + o) 0 ∷ rest ≡ slice bs (at + o) (1 + k)
   field8 o k rest h f = field o 1 k (getD bs (at + o) 0 ∷ []) rest (slice-byte bs (at + o) h) f
 
-  field16 : (o k : ℕ) (rest : List ℕ) → at + o + 2 ≤ length bs → rest ≡ slice bs (at + (o + 2)) k → be16 (be16At bs (at + o)) ++ rest ≡ slice bs (at + o) (2 + k)
+  pub field16 : (o k : ℕ) (rest : List ℕ) → at + o + 2 ≤ length bs → rest ≡ slice bs (at + (o + 2)) k → be16 (be16At bs (at + o)) ++ rest ≡ slice bs (at + o) (2 + k)
   field16 o k rest h f = field o 2 k (be16 (be16At bs (at + o))) rest (slice16 bs (at + o) b h) f
 
-  field32 : (o k : ℕ) (rest : List ℕ) → at + o + 4 ≤ length bs → rest ≡ slice bs (at + (o + 4)) k → be32 (be32At bs (at + o)) ++ rest ≡ slice bs (at + o) (4 + k)
+  pub field32 : (o k : ℕ) (rest : List ℕ) → at + o + 4 ≤ length bs → rest ≡ slice bs (at + (o + 4)) k → be32 (be32At bs (at + o)) ++ rest ≡ slice bs (at + o) (4 + k)
   field32 o k rest h f = field o 4 k (be32 (be32At bs (at + o))) rest (slice32 bs (at + o) b h) f
 
   whole : (k : ℕ) → slice bs (at + 0) k ≡ slice bs at k

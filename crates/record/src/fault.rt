@@ -1,7 +1,7 @@
 // A fault of one record among many of its kind.
 #[derive(Clone, Copy, PartialEq, Eq, Debug)]
 pub struct RecordFault<F> {
-    // The record's number, from 0.
-    pub record: usize,
+    // The record's number among them, from 0.
+    pub index: usize,
     pub fault: F,
 }

@@ -1,0 +1,5 @@
+pub mod Layout
+pub mod Records
+pub mod Paths
+pub mod Views
+pub mod Writes

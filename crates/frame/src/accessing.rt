@@ -1,0 +1,69 @@
+// The records of an accepted frame, by their numbers.
+ghost use mathlib.Core.Path.{_≡_};
+ghost use mathlib.Core.Bool.{true};
+ghost use lib.ListN.{length};
+ghost use Rattle.frame.specs.Paths.{accepted, headerAt};
+ghost use Rattle.frame.specs.Views.{pathOf, nth};
+use super::body::Body;
+use super::gaps::GapRecords;
+use super::header::Header;
+use super::reading::header_at;
+use super::records::Records;
+use super::records::record_at;
+use super::rows::RowRecords;
+use super::samples::SampleRecords;
+use super::view::PathFrame;
+use record::Gap;
+use record::GapFault;
+use record::RowFault;
+use record::Sample;
+use record::SampleFault;
+use record::TorqueRow;
+
+impl<'a> PathFrame<'a> {
+    /// The view of bytes that `read` accepted.
+    pub fn over(bytes: &'a [u8]) -> PathFrame<'a>
+        requires { ⌜ accepted (now bytes) ≡ true ⌝ }
+        ensures { λ r. ⌜ now (r .bytes) ≡ now (bytes .entry) ⌝ }
+    {
+        PathFrame { bytes }
+    }
+
+    /// How many samples and rows there are, the spacing and the lateral number.
+    pub fn header(&self) -> Header
+        ensures { λ r. ⌜ r ≡ pathOf (now (now (self .entry) .bytes)) .header ⌝ }
+    {
+        header_at(self.bytes)
+    }
+
+    pub(crate) fn body(&self) -> Body<'a>
+        ensures bytes { λ r. ⌜ now (r .bytes) ≡ now (now (self .entry) .bytes) ⌝ }
+        ensures header { λ r. ⌜ r .header ≡ headerAt (now (now (self .entry) .bytes)) ⌝ }
+    {
+        Body {
+            bytes: self.bytes,
+            header: header_at(self.bytes),
+        }
+    }
+
+    /// A sample by its number, or nothing past the last.
+    pub fn sample(&self, index: usize) -> Option<Sample>
+        ensures { λ r. ⌜ r ≡ nth (pathOf (now (now (self .entry) .bytes)) .samples) index ⌝ }
+    {
+        record_at::<Sample, SampleFault, SampleRecords>(&self.body(), index)
+    }
+
+    /// A gap by its number, or nothing past the last.
+    pub fn gap(&self, index: usize) -> Option<Gap>
+        ensures { λ r. ⌜ r ≡ nth (pathOf (now (now (self .entry) .bytes)) .gaps) index ⌝ }
+    {
+        record_at::<Gap, GapFault, GapRecords>(&self.body(), index)
+    }
+
+    /// A torque row by its number, or nothing past the last.
+    pub fn row(&self, index: usize) -> Option<TorqueRow>
+        ensures { λ r. ⌜ r ≡ nth (pathOf (now (now (self .entry) .bytes)) .rows) index ⌝ }
+    {
+        record_at::<TorqueRow, RowFault, RowRecords>(&self.body(), index)
+    }
+}

@@ -1,0 +1,24 @@
+mod accessing;
+mod body;
+mod fault;
+mod gaps;
+mod header;
+pub mod layout;
+mod reading;
+mod records;
+mod rows;
+mod samples;
+mod size;
+mod view;
+mod writing;
+
+pub use body::Body;
+pub use fault::FrameFault;
+pub use fault::FrameFromGap;
+pub use fault::FrameFromRow;
+pub use fault::FrameFromSample;
+pub use header::Header;
+pub use reading::read;
+pub use records::Records;
+pub use view::PathFrame;
+pub use writing::WriteFault;
