@@ -31,6 +31,7 @@ pub record HeaderFacts (bs : List ℕ) (h : Header) : Type 0 where
   pub long : 15 ≤ length bs
   pub few : 2 ≤ h .samples
   pub many : h .samples ≤ 4096
+  pub rowed : h .rows ≤ 8192
   pub spaced : 1 ≤ h .spacing
   pub size : length bs ≡ frameSize (h .samples) (h .rows)
 
@@ -54,6 +55,7 @@ header-facts bs h e =
       long = long;
       few = leb-true 2 (x .samples) (f .0);
       many = leb-true (x .samples) 4096 (g .0);
+      rowed = leb-true (x .rows) 8192 (k .0);
       spaced = leb-true 1 (x .spacing) (i .0);
       size = eqb-true (length bs) (frameSize (x .samples) (x .rows)) (l .0);
     })
@@ -89,15 +91,15 @@ nth-behind read k i x xs e f (suc j) =
     let z : i + suc j ≡ i + 1 + j = omega arith in
     ap (λ (b : Bool). cond b (okOf (read (i + suc j))) None) (below j k) ∙ ap (λ (n : ℕ). cond (ltb j k) (okOf (read n)) None) z ∙ f j
 
-pub record-nth : {T F : Type 0} (read : ℕ → Result T F) (k i : ℕ) (xs : List T) → recordsRead read k i ≡ Ok xs → (j : ℕ) → cond (ltb j k) (okOf (read (i + j))) None ≡ nth xs j
-record-nth read zero i [] e j = cond-false (ltb j 0) (okOf (read (i + j))) None (le-ltb j 0 (omega arith))
-record-nth read zero i (x ∷ xs) e j = absurd (let z : _≡_ {A = ℕ} 0 1 = cc in omega arith)
-record-nth {T = T} {F = F} read (suc k) i xs e j =
-    let p = passed-within (fault i) (read i) _ xs e in
-    let q = passed-within (λ (f : RecordFault F). f) (recordsRead read k (i + 1)) _ xs (p .2) in
+pub record-nth : {T F : Type 0} (place : ℕ → ℕ) (read : ℕ → Result T F) (k i : ℕ) (xs : List T) → recordsRead place read k i ≡ Ok xs → (j : ℕ) → cond (ltb j k) (okOf (read (i + j))) None ≡ nth xs j
+record-nth place read zero i [] e j = cond-false (ltb j 0) (okOf (read (i + j))) None (le-ltb j 0 (omega arith))
+record-nth place read zero i (x ∷ xs) e j = absurd (let z : _≡_ {A = ℕ} 0 1 = cc in omega arith)
+record-nth {T = T} {F = F} place read (suc k) i xs e j =
+    let p = passed-within (fault place i) (read i) _ xs e in
+    let q = passed-within (λ (f : RecordFault F). f) (recordsRead place read k (i + 1)) _ xs (p .2) in
     let is : p .0 ∷ q .0 ≡ xs = (let z = q .2 in cc) in
-    nth-behind read k i (p .0) (q .0) (p .1) (record-nth read k (i + 1) (q .0) (q .1)) j ∙ ap (λ (ys : List T). nth ys j) is
+    nth-behind read k i (p .0) (q .0) (p .1) (record-nth place read k (i + 1) (q .0) (q .1)) j ∙ ap (λ (ys : List T). nth ys j) is
 
 -- as an accessor gives it
-pub record-is : {T F : Type 0} (read : ℕ → Result T F) (k : ℕ) (xs : List T) → recordsRead read k 0 ≡ Ok xs → (j : ℕ) → recordAt read k j ≡ nth xs j
-record-is read k xs e j = let z : 0 + j ≡ j = omega arith in ap (λ (n : ℕ). cond (ltb j k) (okOf (read n)) None) (sym z) ∙ record-nth read k 0 xs e j
+pub record-is : {T F : Type 0} (place : ℕ → ℕ) (read : ℕ → Result T F) (k : ℕ) (xs : List T) → recordsRead place read k 0 ≡ Ok xs → (j : ℕ) → recordAt read k j ≡ nth xs j
+record-is place read k xs e j = let z : 0 + j ≡ j = omega arith in ap (λ (n : ℕ). cond (ltb j k) (okOf (read n)) None) (sym z) ∙ record-nth place read k 0 xs e j

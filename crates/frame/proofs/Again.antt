@@ -29,7 +29,7 @@ use Rattle.frame.specs.declared.header.Header.{Header}
 use Rattle.frame.specs.declared.fault.FrameFault.the-variants as frame
 use Rattle.frame.specs.Layout.{samplesAt, gapsAt, rowsAt, frameSize}
 use Rattle.frame.specs.Records.{fault, recordsRead}
-use Rattle.frame.specs.Paths.{Path, headerAt, headerRead, sampleAt, gapAt, rowAt, pathRead, accepted}
+use Rattle.frame.specs.Paths.{Path, headerAt, headerRead, samplePlace, gapPlace, rowPlace, sampleAt, gapAt, rowAt, pathRead, accepted}
 use Rattle.frame.specs.Views.{pathOf}
 use Rattle.frame.specs.declared.writing.WriteFault.the-variants.{Memory}
 use Rattle.frame.specs.Writes.{headerBytes, pathBytes, Rewritable, fronted, Writes}
@@ -42,29 +42,29 @@ use Rattle.frame.proofs.Puts.{sample-again, gap-again, row-again}
 ok-is : {T F : Type 0} (r : Result T F) (x : T) → r ≡ Ok x → isOk r ≡ true
 ok-is r x e = ap isOk e
 
-all-ok : {T F : Type 0} (read : ℕ → Result T F) (k i : ℕ) (xs : List T) → recordsRead read k i ≡ Ok xs → (j : ℕ) → j < k → isOk (read (i + j)) ≡ true
-all-ok read zero i xs e j l = absurd (omega arith)
-all-ok {T = T} {F = F} read (suc k) i xs e zero l =
-    let p = passed-within (fault i) (read i) _ xs e in
+all-ok : {T F : Type 0} (place : ℕ → ℕ) (read : ℕ → Result T F) (k i : ℕ) (xs : List T) → recordsRead place read k i ≡ Ok xs → (j : ℕ) → j < k → isOk (read (i + j)) ≡ true
+all-ok place read zero i xs e j l = absurd (omega arith)
+all-ok {T = T} {F = F} place read (suc k) i xs e zero l =
+    let p = passed-within (fault place i) (read i) _ xs e in
     let z : i + 0 ≡ i = omega arith in
     ap (λ (n : ℕ). isOk (read n)) z ∙ ok-is (read i) (p .0) (p .1)
-all-ok {T = T} {F = F} read (suc k) i xs e (suc j) l =
-    let p = passed-within (fault i) (read i) _ xs e in
-    let q = passed-within (λ (f : RecordFault F). f) (recordsRead read k (i + 1)) _ xs (p .2) in
+all-ok {T = T} {F = F} place read (suc k) i xs e (suc j) l =
+    let p = passed-within (fault place i) (read i) _ xs e in
+    let q = passed-within (λ (f : RecordFault F). f) (recordsRead place read k (i + 1)) _ xs (p .2) in
     let z : i + suc j ≡ i + 1 + j = omega arith in
-    ap (λ (n : ℕ). isOk (read n)) z ∙ all-ok read k (i + 1) (q .0) (q .1) j (omega arith)
+    ap (λ (n : ℕ). isOk (read n)) z ∙ all-ok place read k (i + 1) (q .0) (q .1) j (omega arith)
 
-pub each-ok : {T F : Type 0} (read : ℕ → Result T F) (k : ℕ) (xs : List T) → recordsRead read k 0 ≡ Ok xs → (j : ℕ) → j < k → isOk (read j) ≡ true
-each-ok read k xs e j l = let z : 0 + j ≡ j = omega arith in ap (λ (n : ℕ). isOk (read n)) (sym z) ∙ all-ok read k 0 xs e j l
+pub each-ok : {T F : Type 0} (place : ℕ → ℕ) (read : ℕ → Result T F) (k : ℕ) (xs : List T) → recordsRead place read k 0 ≡ Ok xs → (j : ℕ) → j < k → isOk (read j) ≡ true
+each-ok place read k xs e j l = let z : 0 + j ≡ j = omega arith in ap (λ (n : ℕ). isOk (read n)) (sym z) ∙ all-ok place read k 0 xs e j l
 
-module _ {T F : Type 0} (bs : List ℕ) (read : ℕ → Result T F) (encode : T → List ℕ) (start size : ℕ) where
+module _ {T F : Type 0} (bs : List ℕ) (place : ℕ → ℕ) (read : ℕ → Result T F) (encode : T → List ℕ) (start size : ℕ) where
   all-bytes : (k i : ℕ) (xs : List T) → ((j : ℕ) (x : T) → j < i + k → read j ≡ Ok x → encode x ≡ slice bs (start + size * j) size)
-      → recordsRead read k i ≡ Ok xs → joined encode xs ≡ slice bs (start + size * i) (size * k)
+      → recordsRead place read k i ≡ Ok xs → joined encode xs ≡ slice bs (start + size * i) (size * k)
   all-bytes zero i [] f e = ap (slice bs (start + size * i)) (sym (mul-zero size))
   all-bytes zero i (x ∷ xs) f e = absurd (let z : _≡_ {A = ℕ} 0 1 = cc in omega arith)
   all-bytes (suc k) i xs f e =
-      let p = passed-within (fault i) (read i) _ xs e in
-      let q = passed-within (λ (g : RecordFault F). g) (recordsRead read k (i + 1)) _ xs (p .2) in
+      let p = passed-within (fault place i) (read i) _ xs e in
+      let q = passed-within (λ (g : RecordFault F). g) (recordsRead place read k (i + 1)) _ xs (p .2) in
       let is : p .0 ∷ q .0 ≡ xs = (let z = q .2 in cc) in
       let n : start + size * (i + 1) ≡ start + size * i + size = ap (λ (m : ℕ). start + m) (mul-add size i 1 ∙ ap (λ (m : ℕ). size * i + m) (mul-one size)) ∙ sym (add-assoc start (size * i) size) in
       let m : size + size * k ≡ size * suc k = (let z : 1 + k ≡ suc k = omega arith in ap (λ (a : ℕ). a + size * k) (sym (mul-one size)) ∙ sym (mul-add size 1 k) ∙ ap (λ (a : ℕ). size * a) z) in
@@ -103,9 +103,9 @@ rewritable bs b e =
       few = y .header .few;
       size = y .header .size;
       header = header-again bs (pathOf bs .header) b (w .0);
-      samples = each-ok (sampleAt bs (pathOf bs .header)) (pathOf bs .header .samples) _ (w .1 .samples);
-      gaps = each-ok (gapAt bs (pathOf bs .header)) (pathOf bs .header .samples - 1) _ (w .1 .gaps);
-      rows = each-ok (rowAt bs (pathOf bs .header)) (pathOf bs .header .rows) _ (w .1 .rows);
+      samples = each-ok samplePlace (sampleAt bs (pathOf bs .header)) (pathOf bs .header .samples) _ (w .1 .samples);
+      gaps = each-ok (gapPlace (pathOf bs .header)) (gapAt bs (pathOf bs .header)) (pathOf bs .header .samples - 1) _ (w .1 .gaps);
+      rows = each-ok (rowPlace (pathOf bs .header)) (rowAt bs (pathOf bs .header)) (pathOf bs .header .rows) _ (w .1 .rows);
     })
 
 whole : (bs : List ℕ) (k : ℕ) → length bs ≡ k → slice bs 0 k ≡ bs
@@ -134,9 +134,9 @@ path-again bs b e =
     let w = read-whole bs p (y .read) in
     let size = y .header .size in
     let few = y .header .few in
-    let ss = all-bytes bs (sampleAt bs h) (λ (s : Sample). sampleBytes (wordsOfSample s)) samplesAt 20 n 0 (p .samples) (λ j x l f. sample-again bs h j b x (omega arith) f) (w .1 .samples) in
-    let gs = all-bytes bs (gapAt bs h) (λ (g : Gap). gapBytes (wordsOfGap g)) (gapsAt n) 12 (n - 1) 0 (p .gaps) (λ j x l f. gap-again bs h j b x (omega arith) f) (w .1 .gaps) in
-    let rs = all-bytes bs (rowAt bs h) (λ (r : TorqueRow). rowBytes (wordsOfRow r)) (rowsAt n) 24 (h .rows) 0 (p .rows) (λ j x l f. row-again bs h j b x (omega arith) f) (w .1 .rows) in
+    let ss = all-bytes bs samplePlace (sampleAt bs h) (λ (s : Sample). sampleBytes (wordsOfSample s)) samplesAt 20 n 0 (p .samples) (λ j x l f. sample-again bs h j b x (omega arith) f) (w .1 .samples) in
+    let gs = all-bytes bs (gapPlace h) (gapAt bs h) (λ (g : Gap). gapBytes (wordsOfGap g)) (gapsAt n) 12 (n - 1) 0 (p .gaps) (λ j x l f. gap-again bs h j b x (omega arith) f) (w .1 .gaps) in
+    let rs = all-bytes bs (rowPlace h) (rowAt bs h) (λ (r : TorqueRow). rowBytes (wordsOfRow r)) (rowsAt n) 24 (h .rows) 0 (p .rows) (λ j x l f. row-again bs h j b x (omega arith) f) (w .1 .rows) in
     four bs (headerBytes h) _ _ _ n (n - 1) (h .rows) size (header-again bs h b (w .0)) ss gs rs
 
 -- ---- the memory that it is written into

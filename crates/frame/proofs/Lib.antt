@@ -2,5 +2,6 @@ pub mod Asking
 pub mod Puts
 pub mod Whole
 pub mod Accepted
-pub mod Rewriting
+pub mod Runs
 pub mod Again
+pub mod Shown

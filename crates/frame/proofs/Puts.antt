@@ -15,7 +15,7 @@ use Rattle.record.specs.Rows.{rowWordsAt, wordsOfRow, rowBytes}
 use Rattle.record.proofs.RecordTrips.{SampleFacts, sample-facts, sample-slice, GapFacts, gap-facts, gap-slice, RowFacts, row-facts, row-slice, word-at}
 use Rattle.frame.specs.declared.header.Header.{Header}
 use Rattle.frame.specs.Layout.{samplesAt, gapsAt, rowsAt}
-use Rattle.frame.specs.Paths.{atEnd, sampleAt, gapAt, rowPlace, rowAt}
+use Rattle.frame.specs.Paths.{atEnd, sampleAt, gapAt, rowAround, rowAt}
 
 module _ (bs : List ℕ) (h : Header) (i : ℕ) (b : Bytes bs) where
   pub sample-known : (s : Sample) → samplesAt + 20 * i + 20 ≤ length bs → sampleAt bs h i ≡ Ok s → SampleFacts (sampleWordsAt bs (samplesAt + 20 * i)) s
@@ -34,11 +34,11 @@ module _ (bs : List ℕ) (h : Header) (i : ℕ) (b : Bytes bs) where
   pub gap-again : (g : Gap) → gapsAt (h .samples) + 12 * i + 12 ≤ length bs → gapAt bs h i ≡ Ok g → gapBytes (wordsOfGap g) ≡ slice bs (gapsAt (h .samples) + 12 * i) 12
   gap-again g l e = ap gapBytes (gap-known g e .words) ∙ gap-slice bs (gapsAt (h .samples) + 12 * i) b l
 
-  pub row-known : (r : TorqueRow) → rowsAt (h .samples) + 24 * i + 24 ≤ length bs → rowAt bs h i ≡ Ok r → RowFacts (rowPlace bs h i) (rowWordsAt bs (rowsAt (h .samples) + 24 * i)) r
+  pub row-known : (r : TorqueRow) → rowsAt (h .samples) + 24 * i + 24 ≤ length bs → rowAt bs h i ≡ Ok r → RowFacts (rowAround bs h i) (rowWordsAt bs (rowsAt (h .samples) + 24 * i)) r
   unfolding rowAt
   row-known r l e =
       let at = rowsAt (h .samples) + 24 * i in
-      row-facts (rowPlace bs h i) (rowWordsAt bs at) r (record {
+      row-facts (rowAround bs h i) (rowWordsAt bs at) r (record {
         d = word-at bs (at + 4) b (omega arith);
         c = word-at bs (at + 8) b (omega arith);
         g = word-at bs (at + 12) b (omega arith);

@@ -12,20 +12,20 @@ use Rattle.frame.specs.declared.header.Header.{Header}
 use Rattle.frame.specs.declared.fault.FrameFault.{FrameFault}
 use Rattle.frame.specs.declared.fault.FrameFault.the-variants as frame
 use Rattle.frame.specs.Records.{recordsRead, done}
-use Rattle.frame.specs.Paths.{Path, headerRead, sampleAt, gapAt, rowAt, bodyRead, headerOf, pathRead}
+use Rattle.frame.specs.Paths.{Path, headerRead, samplePlace, gapPlace, rowPlace, sampleAt, gapAt, rowAt, bodyRead, headerOf, pathRead}
 
 -- what an accepted body holds: all the records of its header
 pub record Held (bs : List ℕ) (h : Header) (p : Path) : Type 0 where
   pub header : p .header ≡ h
-  pub samples : recordsRead (sampleAt bs h) (h .samples) 0 ≡ Ok (p .samples)
-  pub gaps : recordsRead (gapAt bs h) (h .samples - 1) 0 ≡ Ok (p .gaps)
-  pub rows : recordsRead (rowAt bs h) (h .rows) 0 ≡ Ok (p .rows)
+  pub samples : recordsRead samplePlace (sampleAt bs h) (h .samples) 0 ≡ Ok (p .samples)
+  pub gaps : recordsRead (gapPlace h) (gapAt bs h) (h .samples - 1) 0 ≡ Ok (p .gaps)
+  pub rows : recordsRead (rowPlace h) (rowAt bs h) (h .rows) 0 ≡ Ok (p .rows)
 
 pub held : (bs : List ℕ) (h : Header) (p : Path) → bodyRead bs h ≡ Ok p → Held bs h p
 held bs h p e =
-    let s = passed-within frame.Sample (recordsRead (sampleAt bs h) (h .samples) 0) _ p e in
-    let g = passed-within frame.Gap (recordsRead (gapAt bs h) (h .samples - 1) 0) _ p (s .2) in
-    let r = passed-within frame.Row (recordsRead (rowAt bs h) (h .rows) 0) _ p (g .2) in
+    let s = passed-within frame.Sample (recordsRead samplePlace (sampleAt bs h) (h .samples) 0) _ p e in
+    let g = passed-within frame.Gap (recordsRead (gapPlace h) (gapAt bs h) (h .samples - 1) 0) _ p (s .2) in
+    let r = passed-within frame.Row (recordsRead (rowPlace h) (rowAt bs h) (h .rows) 0) _ p (g .2) in
     let is : _≡_ {A = Path} (record { header = h; samples = s .0; gaps = g .0; rows = r .0 }) p = (let z = r .2 in cc) in
     record {
       header = sym (ap (λ (q : Path). q .header) is);

@@ -3,3 +3,5 @@ pub mod Records
 pub mod Paths
 pub mod Views
 pub mod Writes
+pub mod Refusals
+pub mod Rewrites

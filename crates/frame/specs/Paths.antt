@@ -55,6 +55,16 @@ headerRead bs =
 abbrev pub atEnd : (n i : ℕ) → Bool
 atEnd n i = cond (eqb i 0) true (eqb (i + 1) n)
 
+-- where each record begins
+abbrev pub samplePlace : ℕ → ℕ
+samplePlace i = samplesAt + 20 * i
+
+abbrev pub gapPlace : Header → ℕ → ℕ
+gapPlace h i = gapsAt (h .samples) + 12 * i
+
+abbrev pub rowPlace : Header → ℕ → ℕ
+rowPlace h k = rowsAt (h .samples) + 24 * k
+
 unfoldable pub sampleAt : List ℕ → Header → ℕ → Result Sample SampleFault
 sampleAt bs h i = sampleRead (atEnd (h .samples) i) (sampleWordsAt bs (samplesAt + 20 * i))
 
@@ -65,11 +75,11 @@ gapAt bs h i = gapRead (gapWordsAt bs (gapsAt (h .samples) + 12 * i))
 abbrev pub gapBefore : List ℕ → Header → ℕ → ℕ
 gapBefore bs h k = cond (eqb k 0) 0 (be16At bs (rowsAt (h .samples) + 24 * (k - 1)))
 
-abbrev pub rowPlace : List ℕ → Header → ℕ → RowPlace
-rowPlace bs h k = record { samples = h .samples; spacing = h .spacing; «gap_before» = gapBefore bs h k }
+abbrev pub rowAround : List ℕ → Header → ℕ → RowPlace
+rowAround bs h k = record { samples = h .samples; spacing = h .spacing; «gap_before» = gapBefore bs h k }
 
 unfoldable pub rowAt : List ℕ → Header → ℕ → Result TorqueRow RowFault
-rowAt bs h k = rowRead (rowPlace bs h k) (rowWordsAt bs (rowsAt (h .samples) + 24 * k))
+rowAt bs h k = rowRead (rowAround bs h k) (rowWordsAt bs (rowsAt (h .samples) + 24 * k))
 
 -- ---- the whole frame
 
@@ -83,9 +93,9 @@ pub record Path : Type 0 where
 -- the records behind a header: all samples are asked first, then all gaps, then all rows
 abbrev pub bodyRead : List ℕ → Header → Result Path FrameFault
 bodyRead bs h =
-    within frame.Sample (recordsRead (sampleAt bs h) (h .samples) 0) (λ ss.
-    within frame.Gap (recordsRead (gapAt bs h) (h .samples - 1) 0) (λ gs.
-    within frame.Row (recordsRead (rowAt bs h) (h .rows) 0) (λ rs.
+    within frame.Sample (recordsRead samplePlace (sampleAt bs h) (h .samples) 0) (λ ss.
+    within frame.Gap (recordsRead (gapPlace h) (gapAt bs h) (h .samples - 1) 0) (λ gs.
+    within frame.Row (recordsRead (rowPlace h) (rowAt bs h) (h .rows) 0) (λ rs.
     Ok (record { header = h; samples = ss; gaps = gs; rows = rs }))))
 
 unfoldable pub pathRead : List ℕ → Result Path FrameFault

@@ -10,13 +10,14 @@ use Rattle.std.specs.declared.result.Result.the-variants.{Ok, Err}
 use Rattle.record.specs.declared.fault.RecordFault.{RecordFault}
 use Rattle.record.specs.Asking.{within}
 
-abbrev pub fault : {F : Type 0} → ℕ → F → RecordFault F
-fault i f = record { index = i; fault = f }
+-- the fault of the i-th record, which begins at its place
+abbrev pub fault : {F : Type 0} → (ℕ → ℕ) → ℕ → F → RecordFault F
+fault place i f = record { index = i; start = place i; fault = f }
 
 -- the k records from the i-th on, or the first that says no
-abbrev pub recordsRead : {T F : Type 0} → (ℕ → Result T F) → (k i : ℕ) → Result (List T) (RecordFault F)
-recordsRead read zero i = Ok []
-recordsRead read (suc k) i = within (fault i) (read i) (λ x. within (λ f. f) (recordsRead read k (i + 1)) (λ xs. Ok (x ∷ xs)))
+abbrev pub recordsRead : {T F : Type 0} → (place : ℕ → ℕ) → (ℕ → Result T F) → (k i : ℕ) → Result (List T) (RecordFault F)
+recordsRead place read zero i = Ok []
+recordsRead place read (suc k) i = within (fault place i) (read i) (λ x. within (λ f. f) (recordsRead place read k (i + 1)) (λ xs. Ok (x ∷ xs)))
 
 -- the same, without the records
 abbrev pub done : {A F : Type 0} → Result A F → Result (Unit {0}) F

@@ -6,6 +6,7 @@ use Rattle.std.specs.declared.option.Option.{Option}
 use Rattle.std.specs.declared.option.Option.the-variants.{Some, None}
 use Rattle.std.specs.declared.result.Result.{Result}
 use Rattle.std.specs.declared.result.Result.the-variants.{Ok, Err}
+use Rattle.record.specs.declared.sample.Sample.{Sample}
 use Rattle.record.specs.Clauses.{ClauseCap}
 use Rattle.frame.specs.declared.fault.FrameFault.{FrameFault}
 use Rattle.frame.specs.Paths.{Path, headerAt, pathRead}
@@ -23,3 +24,13 @@ abbrev pub nth : {A : Type 0} → List A → ℕ → Option A
 nth [] i = None
 nth (x ∷ xs) zero = Some x
 nth (x ∷ xs) (suc i) = nth xs i
+
+-- the cap that a sample's clause gives at the path's lateral number
+abbrev pub CapOf : ℕ → Option Sample → Option ℕ → Type 0
+CapOf a None None = Unit {0}
+CapOf a None (Some w) = ⊥
+CapOf a (Some s) None = ⊥
+CapOf a (Some s) (Some w) = ClauseCap (s .clause) a w
+
+abbrev pub CapShown : Path → ℕ → Option ℕ → Type 0
+CapShown p i r = CapOf (p .header .lateral) (nth (p .samples) i) r

@@ -3,7 +3,7 @@ ghost use mathlib.Core.Path.{_≡_};
 ghost use mathlib.Core.Bool.{true};
 ghost use lib.ListN.{length};
 ghost use Rattle.frame.specs.Paths.{accepted, headerAt};
-ghost use Rattle.frame.specs.Views.{pathOf, nth};
+ghost use Rattle.frame.specs.Views.{pathOf, nth, CapShown};
 use super::body::Body;
 use super::gaps::GapRecords;
 use super::header::Header;
@@ -19,6 +19,7 @@ use record::RowFault;
 use record::Sample;
 use record::SampleFault;
 use record::TorqueRow;
+use words::see_bytes;
 
 impl<'a> PathFrame<'a> {
     /// The view of bytes that `read` accepted.
@@ -65,5 +66,14 @@ impl<'a> PathFrame<'a> {
         ensures { λ r. ⌜ r ≡ nth (pathOf (now (now (self .entry) .bytes)) .rows) index ⌝ }
     {
         record_at::<TorqueRow, RowFault, RowRecords>(&self.body(), index)
+    }
+
+    /// The cap on a sample's squared speed that its clause gives, or nothing past the last sample.
+    pub fn speed_cap(&self, index: usize) -> Option<u32>
+        ensures { λ r. ⌜ CapShown (pathOf (now (now (self .entry) .bytes))) index r ⌝ }
+    {
+        see_bytes(self.bytes);
+        let sample = self.sample(index)?;
+        Some(sample.clause.speed_cap(self.header().lateral))
     }
 }

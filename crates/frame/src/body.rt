@@ -8,5 +8,7 @@ use super::header::Header;
 pub struct Body<'a> {
     pub bytes: &'a [u8],
     pub header: Header,
+    ghost samples: { header .samples ≤ 4096 },
+    ghost rows: { header .rows ≤ 8192 },
     ghost long: { frameSize (header .samples) (header .rows) ≤ length (bytes .now) },
 }

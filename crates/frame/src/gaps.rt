@@ -29,6 +29,10 @@ pub impl<'a> Records<Gap, GapFault> for Body<'a> as GapRecords {
         self.header.samples.saturating_sub(1) as usize
     }
 
+    fn place(&self, index: usize) -> u32 {
+        self.gap_offset(index) as u32
+    }
+
     fn read(&self, index: usize) -> Result<Gap, GapFault> {
         GapWords::at(self.bytes, self.gap_offset(index)).read()
     }

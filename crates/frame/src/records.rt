@@ -26,6 +26,11 @@ pub trait Records<T, F> {
     fn count(&self) -> usize
         ensures { λ r. ⌜ r ≡ count (now (self .entry)) ⌝ };
 
+    // Where a record begins.
+    fn place(&self, index: usize) -> u32
+        requires { ⌜ index < count (now self) ⌝ }
+        ensures { λ r. ⌜ r ≡ start (now (self .entry)) + size * index ⌝ };
+
     // The record, or the first question that says no.
     fn read(&self, index: usize) -> Result<T, F>
         requires { ⌜ index < count (now self) ⌝ }
@@ -42,11 +47,16 @@ pub trait Records<T, F> {
 
 // Asks the records in order: the first that says no.
 pub fn check_records<T: Copy, F: Copy, R: Records<T, F>>(records: &R) -> Result<(), RecordFault<F>>
-    ensures { λ r. ⌜ r ≡ done (recordsRead (R·Records .answer (now (records .entry))) (R·Records .count (now (records .entry))) 0) ⌝ }
+    ensures { λ r. ⌜ r ≡ done (recordsRead (λ i. R·Records .start (now (records .entry)) + R·Records .size * i) (R·Records .answer (now (records .entry))) (R·Records .count (now (records .entry))) 0) ⌝ }
 {
     for index in 0..records.count() {
         if let Err(fault) = records.read(index) {
-            return Err(RecordFault { index, fault });
+            let start = records.place(index);
+            return Err(RecordFault {
+                index,
+                start,
+                fault,
+            });
         }
     }
     Ok(())

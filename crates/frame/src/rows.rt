@@ -3,7 +3,7 @@ ghost use mathlib.Core.Path.{_≡_};
 ghost use Prim.Native.Nat.{_+_, _-_, _*_, _<_};
 ghost use denote.Ref.{now};
 ghost use Rattle.frame.specs.Layout.{rowsAt};
-ghost use Rattle.frame.specs.Paths.{rowAt, rowPlace};
+ghost use Rattle.frame.specs.Paths.{rowAt, rowAround};
 use super::body::Body;
 use super::layout::HEADER_SIZE;
 use super::records::Records;
@@ -32,6 +32,10 @@ pub impl<'a> Records<TorqueRow, RowFault> for Body<'a> as RowRecords {
         self.header.rows as usize
     }
 
+    fn place(&self, index: usize) -> u32 {
+        self.row_offset(index) as u32
+    }
+
     fn read(&self, index: usize) -> Result<TorqueRow, RowFault> {
         RowWords::at(self.bytes, self.row_offset(index)).read(self.row_place(index))
     }
@@ -57,7 +61,7 @@ impl Body<'_> {
     // What stands around a row.
     fn row_place(&self, index: usize) -> RowPlace
         requires { ⌜ index < now self .header .rows ⌝ }
-        ensures { λ r. ⌜ r ≡ rowPlace (now (now (self .entry) .bytes)) (now (self .entry) .header) index ⌝ }
+        ensures { λ r. ⌜ r ≡ rowAround (now (now (self .entry) .bytes)) (now (self .entry) .header) index ⌝ }
     {
         RowPlace {
             samples: self.header.samples,

@@ -28,6 +28,10 @@ pub impl<'a> Records<Sample, SampleFault> for Body<'a> as SampleRecords {
         self.header.samples as usize
     }
 
+    fn place(&self, index: usize) -> u32 {
+        (HEADER_SIZE + SAMPLE_SIZE * index) as u32
+    }
+
     fn read(&self, index: usize) -> Result<Sample, SampleFault> {
         let end = at_end(self.header.samples as usize, index);
         SampleWords::at(self.bytes, HEADER_SIZE + SAMPLE_SIZE * index).read(end)

@@ -1,5 +1,6 @@
 // The number of the question that a fault answers, and where in its record the failing field lies.
 ghost use mathlib.Core.Path.{_≡_};
+ghost use Prim.Native.Nat.{_<_};
 ghost use Rattle.record.specs.Faults.{clauseOffset, sampleAsked, gapAsked, rowAsked};
 use super::clause::ClauseFault;
 use super::gap::GapFault;
@@ -30,7 +31,8 @@ impl ClauseFault {
 
 impl SampleFault {
     pub fn asked(self) -> Asked
-        ensures { λ r. ⌜ r ≡ sampleAsked self ⌝ }
+        ensures is { λ r. ⌜ r ≡ sampleAsked self ⌝ }
+        ensures within { λ r. ⌜ r .offset < 64 ⌝ }
     {
         let (number, offset) = match self {
             SampleFault::Kind => (20, layout::SAMPLE_KIND),
@@ -47,7 +49,8 @@ impl SampleFault {
 
 impl GapFault {
     pub fn asked(self) -> Asked
-        ensures { λ r. ⌜ r ≡ gapAsked self ⌝ }
+        ensures is { λ r. ⌜ r ≡ gapAsked self ⌝ }
+        ensures within { λ r. ⌜ r .offset < 64 ⌝ }
     {
         let (number, offset) = match self {
             GapFault::Rise => (30, layout::GAP_RISE),
@@ -62,7 +65,8 @@ impl GapFault {
 
 impl RowFault {
     pub fn asked(self) -> Asked
-        ensures { λ r. ⌜ r ≡ rowAsked self ⌝ }
+        ensures is { λ r. ⌜ r ≡ rowAsked self ⌝ }
+        ensures within { λ r. ⌜ r .offset < 64 ⌝ }
     {
         let (number, offset) = match self {
             RowFault::Gap => (40, layout::ROW_GAP),

@@ -1,9 +1,11 @@
 use mathlib.Core.Path.{sym, ap, _∙_}
+use native.Mathlib.Nat.{le-of-eq}
 use Rattle.std.specs.declared.result.Result.{Result}
 use Rattle.std.specs.declared.result.Result.the-variants.{Ok, Err}
 use Rattle.std.proofs.shelf.Results.{err-from-errBy}
 use Rattle.frame.specs.declared.header.Header.{Header}
 use Rattle.frame.specs.declared.fault.FrameFault.{FrameFault}
+use Rattle.frame.proofs.Accepted.{header-facts}
 use Rattle.frame.proofs.Whole.{no-header, no-records, all-records}
 use Rattle.frame.proofs.reading.read.Needs as need
 
@@ -22,3 +24,8 @@ returns-in-Break-ask-records c =
 
 pub returns : need.returns
 returns c = sym (all-records (c .args .bytes .now) (c .in-Continue-header .header) (sym (c .in-Continue-header .ensures tt)) (sym (c .in-Continue-ask-records .ensures tt)))
+
+pub ghost-ask-records : need.ghost-ask-records
+ghost-ask-records c =
+    let known = header-facts (c .args .bytes .now) (c .in-Continue-header .header) (sym (c .in-Continue-header .ensures tt)) in
+    (known .many, (known .rowed, (le-of-eq (sym (known .size)), tt)))

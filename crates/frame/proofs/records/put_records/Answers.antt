@@ -2,7 +2,7 @@ use mathlib.Core.Path.{_≡_, sym, ap, _∙_}
 use Prim.Native.Nat.{ℕ, _*_}
 use native.Mathlib.Omega.{arith}
 use Rattle.words.specs.Words.{slice, written}
-use Rattle.frame.proofs.Rewriting.{none-written, one-written}
+use Rattle.frame.proofs.Runs.{none-written, one-written}
 use Rattle.frame.proofs.records.put_records.Needs as need
 
 pub put-requires : need.put-requires

@@ -14,4 +14,7 @@ pub ghost-result : need.ghost-result
 ghost-result c =
     let bs = c .args .self .now .bytes .now in
     let known = yes′ bs (c .args .self .now .sound) .header in
-    (subst (λ (h : Header). frameSize (h .samples) (h .rows) ≤ length bs) (known .is ∙ sym (c .header-at .ensures)) (le-of-eq (sym (known .size))), tt)
+    let same = known .is ∙ sym (c .header-at .ensures) in (
+      subst (λ (h : Header). h .samples ≤ 4096) same (known .many),
+      (subst (λ (h : Header). h .rows ≤ 8192) same (known .rowed), (subst (λ (h : Header). frameSize (h .samples) (h .rows) ≤ length bs) same (le-of-eq (sym (known .size))), tt)),
+    )

@@ -3,7 +3,7 @@ use mathlib.Core.List.{List}
 use Prim.Native.Nat.{ℕ}
 use Rattle.frame.specs.declared.header.Header.{Header}
 use Rattle.frame.specs.Records.{recordAt}
-use Rattle.frame.specs.Paths.{headerAt, sampleAt}
+use Rattle.frame.specs.Paths.{headerAt, samplePlace, sampleAt}
 use Rattle.frame.proofs.Accepted.{yes′, record-is}
 use Rattle.frame.proofs.view.PathFrame.sample.Needs as need
 
@@ -13,4 +13,4 @@ returns c =
     c .record-at .ensures
     ∙ ap (λ (b : List ℕ). recordAt (sampleAt b (c .body .result .header)) (c .body .result .header .samples) (c .args .index)) (c .body .ensures .bytes)
     ∙ ap (λ (h : Header). recordAt (sampleAt bs h) (h .samples) (c .args .index)) (c .body .ensures .header)
-    ∙ record-is (sampleAt bs (headerAt bs)) (headerAt bs .samples) _ (yes′ bs (c .args .self .now .sound) .held .samples) (c .args .index)
+    ∙ record-is samplePlace (sampleAt bs (headerAt bs)) (headerAt bs .samples) _ (yes′ bs (c .args .self .now .sound) .held .samples) (c .args .index)
