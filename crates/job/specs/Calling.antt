@@ -15,7 +15,7 @@ use Rattle.runs.specs.Jobs.{Job as Whole}
 use Rattle.runs.specs.Making.{Start}
 use Rattle.runs.specs.Calls.{Verdict, verdict, acted, replied}
 use Rattle.runs.specs.Law.{RunLaw}
-use Rattle.job.specs.declared.advancing.Progress.{Progress}
+use Rattle.job.specs.declared.progress.Progress.{Progress}
 use Rattle.job.specs.declared.looking.Sight.{Sight}
 use Rattle.job.specs.Grades.{classOf, speedOf, cellsOf}
 use Rattle.job.specs.Whole.{topOf}

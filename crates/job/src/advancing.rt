@@ -1,25 +1,27 @@
 // Advancing: steps within an allowance.
 ghost use mathlib.Core.Path.{_≡_};
+ghost use mathlib.Core.List.{[], _∷_};
+ghost use denote.Ref.{name};
 ghost use lib.ListN.{length};
+ghost use Rattle.runs.specs.declared.call.Call.the-variants.{Advance};
 ghost use Rattle.runs.specs.Calls.{advanced};
+ghost use Rattle.job.specs.Calling.{Does, Lawful, told};
+ghost use Rattle.job.specs.Holding.{over};
 ghost use Rattle.job.specs.Steps.{atWork};
 ghost use Rattle.job.specs.Whole.{whole, setting, course};
 use super::job::Job;
+use super::progress::Progress;
 use grade::Cell;
 use grade::Class;
 use grade::ClassGrade;
+use grade::Sheet;
 use grade::Speed;
 use grade::SpeedGrade;
 use limit::Limit;
+use limit::lawful;
+use runs::Call;
+use runs::Fault;
 use runs::Stage;
-
-// How far an advance came.
-#[derive(Clone, Copy)]
-pub struct Progress {
-    pub stage: Stage,
-    pub evaluations: u64,
-    pub lowerings: u64,
-}
 
 impl Job {
     fn at_work(&self) -> bool
@@ -32,7 +34,7 @@ impl Job {
     }
 
     // Steps until the allowance is used or the work ends.
-    pub(crate) fn work<C: Limit<Class>, S: Limit<Speed>>(
+    fn work<C: Limit<Class>, S: Limit<Speed>>(
         &mut self,
         classes: &mut [Cell<Class>],
         speeds: &mut [Cell<Speed>],
@@ -56,5 +58,32 @@ impl Job {
             evaluations,
             lowerings,
         }
+    }
+
+    // Evaluates until the allowance is used or the job is settled or impossible.
+    pub fn advance<C: Limit<Class>, S: Limit<Speed>>(
+        &mut self,
+        classes: &mut Sheet<'_, Class>,
+        speeds: &mut Sheet<'_, Speed>,
+        class_limit: &C,
+        speed_limit: &S,
+        allowance: u64,
+    ) -> Result<Progress, Fault>
+        ensures lent { λ _. ⌜ name (now (classes .exit) .cells) ≡ name (now (classes .entry) .cells) ⌝ ∗ ⌜ name (now (speeds .exit) .cells) ≡ name (now (speeds .entry) .cells) ⌝ }
+        ensures does { λ r. ⌜ Does (C·Limit .number (now («class_limit» .entry))) (S·Limit .number (now («speed_limit» .entry))) (Advance allowance) (over (now (self .entry)) (now (classes .entry)) (now (speeds .entry))) (over (now (self .exit)) (now (classes .exit)) (now (speeds .exit))) (told r) ⌝ }
+        ensures law { λ _. ⌜ Lawful (C·Limit .number (now («class_limit» .entry))) (S·Limit .number (now («speed_limit» .entry))) (Advance allowance ∷ []) (over (now (self .entry)) (now (classes .entry)) (now (speeds .entry))) (over (now (self .exit)) (now (classes .exit)) (now (speeds .exit))) ⌝ }
+    {
+        lawful(class_limit);
+        lawful(speed_limit);
+        let call = Call::Advance(allowance);
+        self.ask(classes.cells.len(), speeds.cells.len(), call)?;
+        let n = self.samples.count;
+        Ok(self.work(
+            &mut classes.cells[0..n],
+            &mut speeds.cells[0..n],
+            class_limit,
+            speed_limit,
+            allowance,
+        ))
     }
 }

@@ -5,11 +5,12 @@ mod calling;
 mod job;
 mod looking;
 mod pouring;
+mod progress;
 mod reopening;
 mod stepping;
 mod table;
 
-pub use advancing::Progress;
 pub use job::Job;
 pub use looking::Sight;
+pub use progress::Progress;
 pub use table::top_speed;
