@@ -1,4 +1,5 @@
 pub mod Acting
+pub mod Beginning
 pub mod Cuts
 pub mod Evaluating
 pub mod Fuel
@@ -6,3 +7,4 @@ pub mod Grading
 pub mod Lawful
 pub mod Pours
 pub mod Rooms
+pub mod Sums

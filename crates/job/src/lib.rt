@@ -1,9 +1,11 @@
 // The job: sweeps over two sheets under two limits, and the calls that steer it.
 mod advancing;
+mod allowing;
 mod asking;
 mod calling;
 mod job;
 mod looking;
+mod making;
 mod pouring;
 mod progress;
 mod reopening;

@@ -26,7 +26,7 @@ returns-in-Break-ask g c =
     let r = c .from-residual .result in
     let p = err-from-errBy r (c .from-residual .ensures .1) in
     let does : Does a b call h h (told r) =
-        subst (λ x. Does a b call h h (told x)) (sym (p .1 ∙ ap Err (p .2))) (refuses a b call (h .job) (h .classes) (h .speeds) (c .in-Break-ask .field-0 .0) (c .in-Break-ask .ensures tt .is a b)) in
+    subst (λ x. Does a b call h h (told x)) (sym (p .1 ∙ ap Err (p .2))) (refuses a b call (h .job) (h .classes) (h .speeds) (c .in-Break-ask .field-0 .0) (c .in-Break-ask .ensures tt .is a b)) in
     record { lent = (refl, refl); does = does; law = lawful-call a b (c .lawful .ensures) (c .lawful-2 .ensures) call h h (told r) does }
 
 pub returns : need.returns
@@ -45,8 +45,8 @@ returns g c =
     let h′ : Held = held (c .work .last .self) (c .work .last .classes ++ drop n classes) (c .work .last .speeds ++ drop n speeds) in
     let x : Answer = Advanced (c .work .result .stage) (c .work .result .evaluations) (c .work .result .lowerings) in
     let does : Does a b call h h′ x =
-        acts a b call j classes speeds (c .in-Continue-ask .ensures tt .is a b) (fit .0) (fit .1) n (omega arith) (c .work .last .self) (work .samples) x
-        (c .work .last .classes) (c .work .last .speeds) (c .work .kept .classes ∙ length-take-le n classes (omega (arith, fit .0))) (c .work .kept .speeds ∙ length-take-le n speeds (omega (arith, fit .1)))
-        (ap (λ p. p .job) (work .advanced))
-        (ap (λ t. Advanced t (c .work .result .evaluations) (c .work .result .lowerings)) (work .stage) ∙ ap (λ p. Advanced (p .job .stage) (p .evaluations) (p .lowerings)) (work .advanced)) in
+    acts a b call j classes speeds (c .in-Continue-ask .ensures tt .is a b) (fit .0) (fit .1) n (omega arith) (c .work .last .self) (work .samples) x
+    (c .work .last .classes) (c .work .last .speeds) (c .work .kept .classes ∙ length-take-le n classes (omega (arith, fit .0))) (c .work .kept .speeds ∙ length-take-le n speeds (omega (arith, fit .1)))
+    (ap (λ p. p .job) (work .advanced))
+    (ap (λ t. Advanced t (c .work .result .evaluations) (c .work .result .lowerings)) (work .stage) ∙ ap (λ p. Advanced (p .job .stage) (p .evaluations) (p .lowerings)) (work .advanced)) in
     record { lent = (refl, refl); does = does; law = lawful-call a b (c .lawful .ensures) (c .lawful-2 .ensures) call h h′ x does }

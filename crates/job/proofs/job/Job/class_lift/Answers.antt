@@ -28,7 +28,7 @@ returns-in-Break-ask c =
     let r = c .from-residual .result in
     let p = err-from-errBy r (c .from-residual .ensures .1) in
     let does : (a b : Number) → Does a b call h h (done r) = λ a b.
-        subst (λ x. Does a b call h h (done x)) (sym (p .1 ∙ ap Err (p .2))) (refuses a b call (h .job) (h .classes) (h .speeds) (c .in-Break-ask .field-0 .0) (c .in-Break-ask .ensures tt .is a b)) in
+    subst (λ x. Does a b call h h (done x)) (sym (p .1 ∙ ap Err (p .2))) (refuses a b call (h .job) (h .classes) (h .speeds) (c .in-Break-ask .field-0 .0) (c .in-Break-ask .ensures tt .is a b)) in
     record { lent = refl; does = does; law = λ a b a-law b-law. lawful-call a b a-law b-law call h h (done r) (does a b) }
 
 pub returns : need.returns
@@ -47,7 +47,7 @@ returns c =
     let h : Held = held j classes speeds in
     let h′ : Held = held (c .after-lift .last .self) ((c .lift-cell-above .last .cells) ++ drop n classes) speeds in
     let does : (a b : Number) → Does a b call h h′ Done = λ a b.
-        acts-classes a b call j classes speeds (c .in-Continue-ask .ensures tt .is a b) (room .0) (room .1) n (omega arith) (c .after-lift .last .self) (c .after-lift .ensures .samples) Done
-        (c .lift-cell-above .last .cells) (c .lift-cell-above .kept .cells ∙ length-take-le n classes (omega (arith, room .0)))
-        (lifts Classes i v (j .stage) (j .sweep) S S′ _ (c .lift-cell-above .result) (c .lift-cell-above .ensures .which) (ap (λ s. record { classes = s; speeds = S .speeds }) (c .lift-cell-above .ensures .sheet)) (c .after-lift .ensures .relift S′)) refl in
+    acts-classes a b call j classes speeds (c .in-Continue-ask .ensures tt .is a b) (room .0) (room .1) n (omega arith) (c .after-lift .last .self) (c .after-lift .ensures .samples) Done
+    (c .lift-cell-above .last .cells) (c .lift-cell-above .kept .cells ∙ length-take-le n classes (omega (arith, room .0)))
+    (lifts Classes i v (j .stage) (j .sweep) S S′ _ (c .lift-cell-above .result) (c .lift-cell-above .ensures .which) (ap (λ s. record { classes = s; speeds = S .speeds }) (c .lift-cell-above .ensures .sheet)) (c .after-lift .ensures .relift S′)) refl in
     record { lent = refl; does = does; law = λ a b a-law b-law. lawful-call a b a-law b-law call h h′ Done (does a b) }

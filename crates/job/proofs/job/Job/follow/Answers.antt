@@ -21,4 +21,3 @@ returns-in-Working-Classes-Ended c = record {
       c .pour-self .ensures ∙ ap (λ k. poured entry k 0 S) (c .pre .speeds) ∙ ap (λ o. settles σ Classes (c .args .at) o w S) (sym ended)
       ∙ ap (λ t. follows σ (c .args .at) (c .args .outcome) t w S) (sym at-work);
 }
-

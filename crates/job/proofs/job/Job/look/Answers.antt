@@ -22,7 +22,7 @@ returns-in-Break-ask c =
     let r = c .from-residual .result in
     let p = err-from-errBy r (c .from-residual .ensures .1) in
     let does′ : (a b : Number) → Does a b call h h (seen r) = λ a b.
-        subst (λ x. Does a b call h h (seen x)) (sym (p .1 ∙ ap Err (p .2))) (refuses a b call (h .job) (h .classes) (h .speeds) (c .in-Break-ask .field-0 .0) (c .in-Break-ask .ensures tt .is a b)) in
+    subst (λ x. Does a b call h h (seen x)) (sym (p .1 ∙ ap Err (p .2))) (refuses a b call (h .job) (h .classes) (h .speeds) (c .in-Break-ask .field-0 .0) (c .in-Break-ask .ensures tt .is a b)) in
     record { does = does′; law = λ a b a-law b-law. lawful-call a b a-law b-law call h h (seen r) (does′ a b) }
 
 pub returns : need.returns
@@ -37,5 +37,5 @@ returns c =
     let speed = c .rank-2 .ensures ∙ front-value speedRank (h .speeds) i (h .job .samples .count) (c .index-speed-cells-sample .result) below (room .1) in
     let x : Answer = Seen (h .job .stage) (c .rank .result) (c .rank-2 .result) in
     let does′ : (a b : Number) → Does a b call h h x = λ a b.
-        does a b call (h .job) (h .classes) (h .speeds) (c .in-Continue-ask .ensures tt .is a b) h x (staying (wholeOf h) h refl) (cc) in
+    does a b call (h .job) (h .classes) (h .speeds) (c .in-Continue-ask .ensures tt .is a b) h x (staying (wholeOf h) h refl) (cc) in
     record { does = does′; law = λ a b a-law b-law. lawful-call a b a-law b-law call h h x (does′ a b) }
