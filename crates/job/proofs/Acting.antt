@@ -29,11 +29,10 @@ use Rattle.job.proofs.Grading.{class-is, speed-is, cells-are}
 pub front-length : {X : Type 0} (k : ℕ) (new old : List X) → k ≤ length old → length new ≡ k → length (new ++ drop k old) ≡ length old
 front-length k new old h e = simp (length-append, length-drop) (omega arith)
 
--- cells whose front is read as the sheet s, past which they are as before
+-- cells that are read as the sheet s
 module _ {G : Type 0} (rank : G → ℕ) (of : ℕ → G) (same : (x : G) → of (rank x) ≡ x) where
-  pub pinned : (n : ℕ) (new old : List (Cell G)) (s : List (Cell ℕ)) → rankedAll rank (take n new) ≡ s → drop n new ≡ drop n old → new ≡ cellsOf of s ++ drop n old
-  pinned n new old s front past =
-      sym (take-append-drop n new) ∙ ap (λ l. l ++ drop n new) (sym (cells-are rank of same (take n new)) ∙ ap (cellsOf of) front) ∙ ap (λ l. cellsOf of s ++ l) past
+  pub pinned : (cells : List (Cell G)) (s : List (Cell ℕ)) → rankedAll rank cells ≡ s → cells ≡ cellsOf of s
+  pinned cells s read = sym (cells-are rank of same cells) ∙ ap (cellsOf of) read
 
 -- ranks, and what is past them, say which cells there are
 pub holding : (j : Whole) (h h′ : Held) → h′ .job .samples ≡ h .job .samples → wholeOf h′ ≡ j
@@ -42,10 +41,12 @@ pub holding : (j : Whole) (h h′ : Held) → h′ .job .samples ≡ h .job .sam
 holding j h h′ samples job past-c past-s long-c long-s = record {
   samples = samples;
   job = job;
-  classes = pinned classRank classOf class-is (count h) (h′ .classes) (h .classes) (j .sheets .classes)
-      (ap (λ s. rankedAll classRank (take (s .count) (h′ .classes))) (sym samples) ∙ ap (λ w. w .sheets .classes) job) past-c;
-  speeds = pinned speedRank speedOf speed-is (count h) (h′ .speeds) (h .speeds) (j .sheets .speeds)
-      (ap (λ s. rankedAll speedRank (take (s .count) (h′ .speeds))) (sym samples) ∙ ap (λ w. w .sheets .speeds) job) past-s;
+  classes = pinned classRank classOf class-is (take (count h) (h′ .classes)) (j .sheets .classes)
+      (ap (λ s. rankedAll classRank (take (s .count) (h′ .classes))) (sym samples) ∙ ap (λ w. w .sheets .classes) job);
+  speeds = pinned speedRank speedOf speed-is (take (count h) (h′ .speeds)) (j .sheets .speeds)
+      (ap (λ s. rankedAll speedRank (take (s .count) (h′ .speeds))) (sym samples) ∙ ap (λ w. w .sheets .speeds) job);
+  past-classes = past-c;
+  past-speeds = past-s;
   long-classes = long-c;
   long-speeds = long-s;
 }

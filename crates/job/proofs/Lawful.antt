@@ -11,12 +11,13 @@ use Rattle.std.proofs.shelf.Tests.{cases-eq}
 use Rattle.grade.specs.Tops.{classTop, speedTop}
 use Rattle.limit.specs.Numbers.{Number, LimitLaw}
 use Rattle.runs.specs.declared.call.Answer.{Answer}
+use Rattle.runs.specs.declared.call.Answer.the-variants.{Refused}
 use Rattle.runs.specs.declared.call.Call.{Call}
 use Rattle.runs.specs.declared.stage.Make.{Make}
 use Rattle.runs.specs.declared.stage.Make.the-variants.{Classes, Speeds}
 use Rattle.runs.specs.Settings.{Setting, SettingLaw}
 use Rattle.runs.specs.Making.{Start, StartLaw, made}
-use Rattle.runs.specs.Calls.{granted, refused, verdict, acted, called}
+use Rattle.runs.specs.Calls.{granted, refused, verdict, acted, replied, called, answered}
 use Rattle.runs.specs.Runs.{after}
 use Rattle.runs.specs.Law.{RunLaw}
 use Rattle.runs.proofs.Runs.{run-more}
@@ -24,7 +25,7 @@ use Rattle.runs.proofs.Law.{runs-lawful}
 use Rattle.job.specs.Table.{entry}
 use Rattle.job.specs.Whole.{topOf, limitOf, setting}
 use Rattle.job.specs.Holding.{Held, count, wholeOf, settingOf, roomFor, room, judged, Led}
-use Rattle.job.specs.Calling.{asked, outcome, Holds, Does, Lawful}
+use Rattle.job.specs.Calling.{outcome, reply, Does, Lawful}
 use Rattle.job.proofs.Rooms.{room-yes, room-both}
 
 -- the table never falls
@@ -59,7 +60,7 @@ module _ (a b : Number) where
       subst (RunLaw (settingOf a b h) s cs) (sym (led .job)) (runs-lawful (settingOf a b h) (lawful-setting (count h) a b (omega arith) a-law b-law) s (led .start) cs)
 
   -- where the memories hold the samples, a call leads where the theory says
-  in-room : (call : Call) (h : Held) → room h ≡ granted → outcome a b call h ≡ called (settingOf a b h) call (wholeOf h)
+  pub in-room : (call : Call) (h : Held) → room h ≡ granted → outcome a b call h ≡ called (settingOf a b h) call (wholeOf h)
   unfolding called
   in-room call h roomy =
       let fit = room-both (count h) (length (h .classes)) (length (h .speeds)) roomy in
@@ -70,8 +71,19 @@ module _ (a b : Number) where
       same granted = refl
       same (refused f) = refl
 
+  pub reply-in-room : (call : Call) (h : Held) → room h ≡ granted → reply a b call h ≡ answered (settingOf a b h) call (wholeOf h)
+  unfolding answered
+  reply-in-room call h roomy =
+      let fit = room-both (count h) (length (h .classes)) (length (h .speeds)) roomy in
+      let v = verdict (settingOf a b h) call (h .job .stage) in
+      ap (λ x. judged x (replied (settingOf a b h) call (wholeOf h)) Refused) (room-yes (count h) (length (h .classes)) (length (h .speeds)) v (fit .0) (fit .1)) ∙ same v
+    where
+      same : (v : _) → judged v (replied (settingOf a b h) call (wholeOf h)) Refused ≡ elim v [ granted ↦ replied (settingOf a b h) call (wholeOf h) | refused f ↦ Refused f ]
+      same granted = refl
+      same (refused f) = refl
+
   -- as long as before, the memories still hold the samples
-  room-still : (h h′ : Held) → h′ .job .samples ≡ h .job .samples → length (h′ .classes) ≡ length (h .classes) → length (h′ .speeds) ≡ length (h .speeds) → room h ≡ granted → room h′ ≡ granted
+  pub room-still : (h h′ : Held) → h′ .job .samples ≡ h .job .samples → length (h′ .classes) ≡ length (h .classes) → length (h′ .speeds) ≡ length (h .speeds) → room h ≡ granted → room h′ ≡ granted
   room-still h h′ samples c-long s-long roomy =
       ap (λ s. roomFor (s .count) (length (h′ .classes)) (length (h′ .speeds)) granted) samples ∙ ap (λ n. roomFor (count h) n (length (h′ .speeds)) granted) c-long
       ∙ ap (λ n. roomFor (count h) (length (h .classes)) n granted) s-long ∙ roomy
@@ -85,7 +97,7 @@ module _ (a b : Number) where
     job = job-is ∙ ap (λ n. after (setting (n .count) a b) s (earlier ++ cs)) (sym samples);
   }
 
-  lawful-from : LimitLaw classTop a → LimitLaw speedTop b → (cs : List Call) (h h′ : Held) → h′ .job .samples ≡ h .job .samples
+  pub lawful-from : LimitLaw classTop a → LimitLaw speedTop b → (cs : List Call) (h h′ : Held) → h′ .job .samples ≡ h .job .samples
       → ((s : Start) (earlier : List Call) → Led a b s earlier h → Led a b s (earlier ++ cs) h′) → Lawful a b cs h h′
   lawful-from a-law b-law cs h h′ samples leads = record {
     leads = leads;

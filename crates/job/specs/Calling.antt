@@ -2,7 +2,7 @@
 use Prim.Native.Nat.{ℕ, _≤_, _<_}
 use mathlib.Core.Path.{_≡_}
 use mathlib.Core.List.{List, [], _∷_, _++_}
-use lib.ListN.{length, drop}
+use lib.ListN.{length, take, drop}
 use Rattle.std.specs.declared.result.Result.{Result}
 use Rattle.std.specs.declared.result.Result.the-variants.{Ok, Err}
 use Rattle.limit.specs.Numbers.{Number}
@@ -38,9 +38,12 @@ pub record Holds (j : Whole) (h h′ : Held) : Type 0 where
   pub samples : h′ .job .samples ≡ h .job .samples
   -- the stage, the sweep, and the sheets as ranks
   pub job : wholeOf h′ ≡ j
-  -- the memories: of each rank its one grade, and what is past the samples as it was
-  pub classes : h′ .classes ≡ cellsOf classOf (j .sheets .classes) ++ drop (count h) (h .classes)
-  pub speeds : h′ .speeds ≡ cellsOf speedOf (j .sheets .speeds) ++ drop (count h) (h .speeds)
+  -- the cells of the samples: of each rank its one grade
+  pub classes : take (count h) (h′ .classes) ≡ cellsOf classOf (j .sheets .classes)
+  pub speeds : take (count h) (h′ .speeds) ≡ cellsOf speedOf (j .sheets .speeds)
+  -- the cells past them
+  pub past-classes : drop (count h) (h′ .classes) ≡ drop (count h) (h .classes)
+  pub past-speeds : drop (count h) (h′ .speeds) ≡ drop (count h) (h .speeds)
   pub long-classes : length (h′ .classes) ≡ length (h .classes)
   pub long-speeds : length (h′ .speeds) ≡ length (h .speeds)
 

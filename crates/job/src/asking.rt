@@ -79,7 +79,7 @@ impl Job {
     }
 
     // Do memories of so many cells hold every sample?
-    pub(crate) fn ask_room(&self, classes: usize, speeds: usize) -> Result<(), Fault>
+    pub fn ask_room(&self, classes: usize, speeds: usize) -> Result<(), Fault>
         ensures is { λ r. ⌜ verdictOf r ≡ roomFor (now (self .entry) .samples .count) classes speeds granted ⌝ }
         ensures room { λ r. ⌜ made r (λ _. (now (self .entry) .samples .count ≤ classes) × (now (self .entry) .samples .count ≤ speeds)) ⌝ }
     {
