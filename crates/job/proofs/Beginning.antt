@@ -4,7 +4,7 @@ use native.Mathlib.Omega.{arith}
 use mathlib.Core.Path.{_≡_, refl, sym, ap, subst, _∙_}
 use mathlib.Core.List.{List, [], _∷_, _++_, map}
 use lib.ListN.{length, take, drop}
-use Rattle.std.proofs.shelf.Lists.{take-at, length-map, length-take-le}
+use Rattle.std.proofs.shelf.Lists.{take-at, drop-at, length-map, length-take-le}
 use Rattle.grade.specs.declared.cell.Cell.{Cell}
 use Rattle.grade.specs.declared.class.Class.{Class}
 use Rattle.grade.specs.declared.speed.Speed.{Speed}
@@ -81,8 +81,11 @@ module _ (samples : Samples) (k : ℕ) (cs cs′ : List (Cell Class)) (ss ss′ 
   count-is : k ≡ j .samples .count
   count-is = k-is ∙ ap (λ s. s .count) (sym samples-are)
 
-  cells-are : {X : Type 0} (xs xs′ : List (Cell X)) → xs′ ≡ map atCap (take k xs) → xs′ ++ drop k xs ≡ map atCap (take n xs) ++ drop n xs
-  cells-are xs xs′ is = ap (λ l. l ++ drop k xs) is ∙ ap (λ m. map atCap (take m xs) ++ drop m xs) k-is
+  cells-are : {X : Type 0} (xs xs′ : List (Cell X)) → n ≤ length xs → xs′ ≡ map atCap (take k xs) → take n (xs′ ++ drop k xs) ≡ map atCap (take n xs)
+  cells-are xs xs′ fit is = take-at xs′ (drop k xs) n (long xs xs′ fit is ∙ k-is) ∙ is ∙ ap (λ m. map atCap (take m xs)) k-is
+
+  past-are : {X : Type 0} (xs xs′ : List (Cell X)) → n ≤ length xs → xs′ ≡ map atCap (take k xs) → drop n (xs′ ++ drop k xs) ≡ drop n xs
+  past-are xs xs′ fit is = drop-at xs′ (drop k xs) n (long xs xs′ fit is ∙ k-is) ∙ ap (λ m. drop m xs) k-is
 
   job-is : j .sweep ≡ fresh → j .stage ≡ opened cs′ ss′ → (a b : Number) → wholeOf (held j (cs′ ++ drop k cs) (ss′ ++ drop k ss)) ≡ made (setting n a b) (startOf n cs ss)
   unfolding made start
@@ -118,8 +121,10 @@ module _ (samples : Samples) (k : ℕ) (cs cs′ : List (Cell Class)) (ss ss′ 
     room = room-yes n (length cs) (length ss) granted cs-fit ss-fit;
     samples-are = samples-are;
     job = job-is sweep stage;
-    classes-are = cells-are cs cs′ cs-is;
-    speeds-are = cells-are ss ss′ ss-is;
+    classes-are = cells-are cs cs′ cs-fit cs-is;
+    speeds-are = cells-are ss ss′ ss-fit ss-is;
+    past-classes = past-are cs cs′ cs-fit cs-is;
+    past-speeds = past-are ss ss′ ss-fit ss-is;
     long-classes = long-cs;
     long-speeds = long-ss;
     leads = led sweep stage;

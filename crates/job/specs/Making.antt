@@ -1,7 +1,7 @@
 -- Making a job from the caps and floors that its memory holds.
 use Prim.Native.Nat.{ℕ}
 use mathlib.Core.Path.{_≡_}
-use mathlib.Core.List.{List, [], map, _++_}
+use mathlib.Core.List.{List, [], map}
 use lib.ListN.{length, take, drop}
 use Rattle.std.specs.declared.result.Result.{Result}
 use Rattle.std.specs.declared.result.Result.the-variants.{Ok, Err}
@@ -53,9 +53,11 @@ pub record Made (samples : Samples) (classes classes′ : List (Cell Class)) (sp
   pub room : roomFor (samples .count) (length classes) (length speeds) granted ≡ granted
   pub samples-are : j .samples ≡ samples
   pub job : (a b : Number) → wholeOf (held j classes′ speeds′) ≡ made (setting (samples .count) a b) (startOf (samples .count) classes speeds)
-  -- each value at its cap, and what is past the samples as it was
-  pub classes-are : classes′ ≡ map atCap (take (samples .count) classes) ++ drop (samples .count) classes
-  pub speeds-are : speeds′ ≡ map atCap (take (samples .count) speeds) ++ drop (samples .count) speeds
+  -- the cells of the samples, each value at its cap, and those past them
+  pub classes-are : take (samples .count) classes′ ≡ map atCap (take (samples .count) classes)
+  pub speeds-are : take (samples .count) speeds′ ≡ map atCap (take (samples .count) speeds)
+  pub past-classes : drop (samples .count) classes′ ≡ drop (samples .count) classes
+  pub past-speeds : drop (samples .count) speeds′ ≡ drop (samples .count) speeds
   pub long-classes : length classes′ ≡ length classes
   pub long-speeds : length speeds′ ≡ length speeds
   -- the start that the cells give leads here with no call, under whatever limits, and the law holds of no call under lawful ones

@@ -11,7 +11,6 @@ use grade::Speed;
 use grade::SpeedGrade;
 use job::Job;
 use limit::Limit;
-use limit::lawful;
 use runs::Answer;
 use runs::Call;
 use runs::Fault;
@@ -31,9 +30,15 @@ pub fn plan<C: Limit<Class>, S: Limit<Speed>>(
     ensures lent { λ _. ⌜ name (now (classes .exit) .cells) ≡ name (now (classes .entry) .cells) ⌝ ∗ ⌜ name (now (speeds .exit) .cells) ≡ name (now (speeds .entry) .cells) ⌝ }
     ensures plans { λ r. ⌜ Plans (C·Limit .number (now («class_limit» .entry))) (S·Limit .number (now («speed_limit» .entry))) samples (placed (now (calls .entry)) (now (answers .entry))) (now (now (classes .entry) .cells)) (now (now (classes .exit) .cells)) (now (now (speeds .entry) .cells)) (now (now (speeds .exit) .cells)) (now (answers .entry)) (now (answers .exit)) r ⌝ }
 {
-    lawful(class_limit);
-    lawful(speed_limit);
     let mut job = Job::make(classes, speeds, samples)?;
-    let _ = run(&mut job, classes, speeds, class_limit, speed_limit, calls, answers);
+    let _ = run(
+        &mut job,
+        classes,
+        speeds,
+        class_limit,
+        speed_limit,
+        calls,
+        answers,
+    );
     Ok(job)
 }
