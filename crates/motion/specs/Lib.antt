@@ -1,0 +1,6 @@
+pub mod Averages
+pub mod Floors
+pub mod Ramps
+pub mod Rates
+pub mod Rows
+pub mod Torques
