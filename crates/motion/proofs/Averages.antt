@@ -1,19 +1,17 @@
 -- An average keeps the rule, and is kept exactly by the profiles that are averaged.
 use Prim.Native.Nat.{ℕ, _+_, _-_, _≤_, _<_}
-use mathlib.Core.Path.{_≡_, ap, sym, _∙_}
+use mathlib.Core.Path.{_≡_}
 use mathlib.Core.Logic.{_↔_}
-use mathlib.Core.Bool.{Bool, true, cond, _&&_}
+use mathlib.Core.Bool.{Bool, _&&_}
 use mathlib.Core.List.{List}
 use native.Mathlib.Omega.{arith}
 use lib.Dec.{ltb}
-use lib.IntN.{ℤ, pos, negsuc, _+ℤ_}
-use lib.Signed.{mag, _≤ℤ_}
-use mir.Syntax.{w32, w64}
-use mir.Val.{SFits, toZ, ofZ}
-use lib.ListN.{length, getD}
+use lib.IntN.{ℤ, pos, negsuc}
+use lib.Signed.{_≤ℤ_}
+use lib.ListN.{length}
 use Rattle.std.proofs.shelf.Signed.{ints}
-use Rattle.std.proofs.shelf.Tests.{cond-true, cond-false, le-ltb, lt-ltb, ltb-true, and-parts, and-from, and-left, and-right}
-use Rattle.grade.specs.Profiles.{Profile, rank, Within}
+use Rattle.std.proofs.shelf.Tests.{cond-false, le-ltb, lt-ltb, ltb-true, and-parts, and-from, and-left, and-right}
+use Rattle.grade.specs.Profiles.{Profile, rank}
 use Rattle.limit.specs.Numbers.{KeptExactly}
 use Rattle.grade.specs.Tops.{speedTop}
 use Rattle.motion.specs.Floors.{floored}
@@ -21,24 +19,9 @@ use Rattle.motion.specs.Averages.{around, average, WithinAverage, WithinAverag
 use Rattle.motion.proofs.Floors.{floored-low, floored-high, floored-mono, under-floored}
 use Rattle.limit.proofs.Numbers.{where-low, where-high, where-mono, under-where}
 
--- the sum as the machine forms it, in 64 bits
-abbrev machineSum : ℕ → ℕ → ℤ → ℤ
-machineSum a b q = toZ w64 (ofZ w64 (toZ w64 (ofZ w64 (toZ w64 a +ℤ toZ w64 b)) +ℤ toZ w64 (ofZ w64 (toZ w32 (ofZ w32 q)))))
-
-summed : (a b : ℕ) (q : ℤ) → a ≤ speedTop → b ≤ speedTop → mag q < 2147483648 → machineSum a b q ≡ pos (a + b) +ℤ q
-summed a b q l k m = let f : SFits w32 q = record { sfits = m } in omega (arith, ints)
-
 module _ (qs : List ℤ) where
   abbrev inner : Profile → ℕ → Bool
   inner p i = ltb 0 i && (ltb (i + 1) (length p) && ltb i (length qs))
-
-  -- what the leaf gives at an inner sample, from the neighbours a and b and the offset q that were read
-  pub average-inner : (p : Profile) → Within speedTop p → (i a b : ℕ) (q r : ℤ) → 0 < i → i + 1 < length p → i < length qs
-      → a ≡ rank p (i - 1) → b ≡ rank p (i + 1) → q ≡ getD qs i (pos 0) → mag q < 2147483648 → r ≡ floored 2 (machineSum a b q) → r ≡ average qs p i
-  average-inner p w i a b q r x y z ea eb eq m e =
-      let sum = summed a b q (omega (arith, w (i - 1) (omega arith))) (omega (arith, w (i + 1) y)) m in
-      let same : pos (a + b) +ℤ q ≡ around qs p i = cc in
-      e ∙ ap (floored 2) (sum ∙ same) ∙ sym (cond-true (inner p i) _ _ (and-from _ _ (lt-ltb 0 i x) (and-from _ _ (lt-ltb (i + 1) (length p) y) (lt-ltb i (length qs) z))))
 
   pub average-low : (p : Profile) (i : ℕ) → negsuc 0 ≤ℤ average qs p i
   average-low p i = where-low (inner p i) _ speedTop (floored-low 2 (around qs p i))

@@ -2,7 +2,7 @@
 use Prim.Native.Nat.{ℕ, _+_, _-_, _≤_, _<_, min}
 use mathlib.Core.Path.{_≡_, ap}
 use mathlib.Core.Logic.{_↔_}
-use mathlib.Core.Bool.{true, cond, _&&_}
+use mathlib.Core.Bool.{_&&_}
 use mathlib.Core.List.{List}
 use native.Mathlib.Omega.{arith}
 use lib.Dec.{ltb, leb}
@@ -12,7 +12,7 @@ use lib.ListN.{length, getD}
 use Rattle.std.specs.Numbers.{minZ}
 use Rattle.std.proofs.shelf.Signed.{ints}
 use Rattle.std.proofs.shelf.Tests.{cond-false, le-ltb, lt-ltb, le-leb, ltb-true, leb-true, and-parts, and-from}
-use Rattle.grade.specs.Profiles.{Profile, rank, Within, AtMost}
+use Rattle.grade.specs.Profiles.{Profile, rank}
 use Rattle.motion.specs.declared.steps.Step.{Step}
 use Rattle.limit.specs.Numbers.{Keeps, KeptExactly}
 use Rattle.motion.specs.Ramps.{noStep, before, after, ramp, WithinSteps, WithinStepsAt}

@@ -1,16 +1,15 @@
 -- Two profiles that the rate rows let through, whose greater at each sample they do not.
 use Prim.Native.Nat.{ℕ, zero, suc, _+_, _*_, _≤_, _<_}
 use mathlib.Core.Path.{_≡_, refl}
-use mathlib.Core.List.{List, [], _∷_}
+use mathlib.Core.List.{[], _∷_}
 use native.Mathlib.Omega.{arith}
 use native.Mathlib.Nat.{div-one}
 use lib.IntN.{ℤ, pos, _-ℤ_}
 use lib.Signed.{_≤ℤ_, _<ℤ_}
-use lib.ListN.{length, getD}
 use Rattle.std.proofs.shelf.Signed.{ints}
 use Rattle.grade.specs.Profiles.{Profile, rank, Within, AtMost}
 use Rattle.grade.specs.Tops.{speedTop}
-use Rattle.limit.specs.Numbers.{Keeps, Rule}
+use Rattle.limit.specs.Numbers.{Keeps}
 use Rattle.motion.specs.Floors.{floored}
 use Rattle.motion.specs.Rates.{WithinRate, rate, RateFalls, RateBreaksRule, RateIsNoLimit, level, raised}
 

@@ -1,33 +1,24 @@
 -- Evaluating rows: which of them bear on a sample, and how the least is met row by row.
-use Prim.Native.Nat.{ℕ, zero, suc, _+_, _-_, _≤_, _<_, min}
+use Prim.Native.Nat.{ℕ, zero, suc, _+_, _≤_, _<_, min}
 use mathlib.Core.Path.{_≡_, refl, ap, sym, _∙_}
-use mathlib.Core.Bool.{cond, _&&_}
+use mathlib.Core.Bool.{_&&_}
 use mathlib.Core.List.{List, [], _∷_}
 use native.Mathlib.Omega.{arith}
 use lib.Dec.{ltb, eqb}
 use lib.IntN.{ℤ, pos, negsuc}
-use lib.Signed.{_≤ℤ_}
-use lib.ListN.{length, getD, drop}
+use lib.ListN.{length, drop}
 use Rattle.std.specs.Numbers.{minZ}
 use Rattle.std.proofs.shelf.Lists.{at-drop-more, at-drop-all, getD-drop, length-drop}
 use Rattle.std.proofs.shelf.Signed.{ints, clamps}
-use Rattle.std.proofs.shelf.Tests.{cond-true, cond-false, eq-eqb, ne-eqb, lt-ltb, and-from, and-left}
-use Rattle.grade.specs.Profiles.{Profile, rank}
+use Rattle.std.proofs.shelf.Tests.{cond-false, ne-eqb, and-left}
+use Rattle.grade.specs.Profiles.{Profile}
 use Rattle.grade.specs.Tops.{speedTop}
 use Rattle.motion.specs.declared.rows.Row.{Row}
-use Rattle.motion.specs.declared.triple.Triple.{Triple}
 use Rattle.motion.specs.Rows.{rowAt, noRow, Sound, SoundRows}
-use Rattle.motion.specs.Torques.{onRight, onLeft, bound, allowsAfter, allowsBefore, allows, least, torque}
+use Rattle.motion.specs.Torques.{bound, allowsAfter, allowsBefore, allows, least, torque}
 use Rattle.motion.proofs.Torques.{least-low, least-high, least-none, allows-low}
 
 module _ (h : ℕ) (p : Profile) (i : ℕ) (r : Row) where
-  -- what was computed from the triple t and the neighbour v
-  pub is-after : (t : Triple) (v : ℕ) (z : ℤ) → r .gap + 1 ≡ i → i < length p → t ≡ onRight h r → v ≡ rank p (i - 1) → z ≡ bound t v → z ≡ allowsAfter h p i r
-  is-after t v z e l a b c = c ∙ ap (λ (x : Triple). bound x v) a ∙ ap (bound (onRight h r)) b ∙ sym (cond-true (eqb (r .gap + 1) i && ltb i (length p)) _ _ (and-from _ _ (eq-eqb (r .gap + 1) i e) (lt-ltb i (length p) l)))
-
-  pub is-before : (t : Triple) (v : ℕ) (z : ℤ) → r .gap ≡ i → i + 1 < length p → t ≡ onLeft h r → v ≡ rank p (i + 1) → z ≡ bound t v → z ≡ allowsBefore h p i r
-  is-before t v z e l a b c = c ∙ ap (λ (x : Triple). bound x v) a ∙ ap (bound (onLeft h r)) b ∙ sym (cond-true (eqb (r .gap) i && ltb (i + 1) (length p)) _ _ (and-from _ _ (eq-eqb (r .gap) i e) (lt-ltb (i + 1) (length p) l)))
-
   -- a row at neither gap beside the sample bounds nothing there
   elsewhere : (r .gap + 1 ≡ i → ⊥) → (r .gap ≡ i → ⊥) → allows h p i r ≡ pos speedTop
   elsewhere m n =

@@ -2,27 +2,26 @@
 use Prim.Native.Nat.{ℕ, zero, suc, _+_, _-_, _*_, _≤_, _<_}
 use mathlib.Core.Path.{_≡_, refl, subst}
 use mathlib.Core.Logic.{_↔_}
-use mathlib.Core.Bool.{Bool, true, cond, _&&_}
+use mathlib.Core.Bool.{Bool, _&&_}
 use mathlib.Core.List.{List, [], _∷_}
 use native.Mathlib.Omega.{arith}
 use native.Mathlib.Nat.{mul-le-mul-left}
 use lib.Dec.{ltb, eqb}
 use lib.IntN.{ℤ, pos, negsuc, _+ℤ_}
 use lib.Signed.{_≤ℤ_}
-use lib.ListN.{length, getD}
-use Rattle.std.specs.Numbers.{minZ}
+use lib.ListN.{length}
 use Rattle.std.proofs.shelf.Signed.{ints, clamps}
 use Rattle.std.proofs.shelf.Tests.{cond-false, le-ltb, lt-ltb, ltb-true, eq-eqb, eqb-true, and-parts, and-from, and-right}
-use Rattle.grade.specs.Profiles.{Profile, rank, Within}
+use Rattle.grade.specs.Profiles.{Profile, rank}
 use Rattle.grade.specs.Tops.{speedTop}
 use Rattle.motion.specs.declared.rows.Row.{Row}
 use Rattle.motion.specs.declared.triple.Triple.{Triple}
 use Rattle.limit.specs.Numbers.{Keeps, KeptExactly}
 use Rattle.motion.specs.Rows.{moment, lowest, highest, BoundsNext, BoundsLast, WithinTorque, WithinTorqueAt, rowAt, Sound, SoundRows}
 use Rattle.motion.specs.Torques.{onRight, onLeft, bound, allowsAfter, allowsBefore, allows, least, torque}
-use Rattle.motion.proofs.Floors.{floored-low, floored-high, floored-mono, under-floored}
+use Rattle.motion.proofs.Floors.{floored-low, floored-mono, under-floored}
 use Rattle.motion.proofs.Moments.{next-side, last-side, row-holds}
-use Rattle.limit.proofs.Numbers.{min-mono, min-low, min-high, under-min, where-low, where-high, where-mono, under-where}
+use Rattle.limit.proofs.Numbers.{min-mono, min-low, under-min, where-low, where-mono, under-where}
 
 -- ---- one inequality
 

@@ -1,10 +1,16 @@
 // How far an inner sample may lie above the average of its neighbours.
+ghost use mathlib.Core.Path.{_≡_};
+ghost use Prim.Native.Nat.{_+_};
+ghost use lib.IntN.{pos, _+ℤ_};
 ghost use Rattle.grade.specs.Ranks.{ranks, speedRank};
 ghost use Rattle.grade.specs.Tops.{speedTop};
 ghost use Rattle.limit.specs.Numbers.{KeptExactly, Greatest};
 ghost use Rattle.motion.specs.Averages.{average, WithinAverage, WithinAverageAt};
 use super::floor::floor_bound;
 use super::offsets::Offsets;
+use super::reading::samples;
+use super::reading::unbounded;
+use super::reading::value;
 use grade::Cell;
 use grade::Grade;
 use grade::Speed;
@@ -16,22 +22,28 @@ pub struct Average<Q> {
     pub offsets: Q,
 }
 
-// How often a sample counts against its two neighbours.
-const NEIGHBOURS: u32 = 2;
+// How often the bounded sample counts, against its two neighbours.
+const TWICE: u32 = 2;
 
 pub impl<Q: Offsets> Limit<Speed> for Average<Q> as AverageLimit {
     ghost number = { λ l p i. average (Q·Offsets .offsets (l .offsets)) p i };
 
-    // The sum fits 64 bits signed: two squared speeds are below 2^31 each, and q has 32 bits.
     fn evaluate(&self, cells: &[Cell<Speed>], at: usize) -> Option<Speed> {
-        if at > 0 && at < self.offsets.len() && at + 1 < cells.len() {
-            let before = cells[at - 1].value.rank() as i64;
-            let after = cells[at + 1].value.rank() as i64;
-            floor_bound(NEIGHBOURS, before + after + self.offsets.offset(at) as i64)
+        if at > 0 && at < self.offsets.len() && at + 1 < samples(cells) {
+            let before = value(cells, at - 1);
+            let after = value(cells, at + 1);
+            floor_bound(TWICE, sum(before, after, self.offsets.offset(at)))
         } else {
-            Some(Speed::of_rank(Speed::highest()))
+            Some(unbounded())
         }
     }
+}
+
+// Two squared speeds and an offset. It fits 64 bits signed: each is below 2^31 in size.
+fn sum(before: Speed, after: Speed, offset: i32) -> i64
+    ensures { λ r. ⌜ r ≡ pos (speedRank before + speedRank after) +ℤ offset ⌝ }
+{
+    before.rank() as i64 + after.rank() as i64 + offset as i64
 }
 
 // A profile keeps an average exactly when 2 × w(i) ≤ w(i − 1) + w(i + 1) + q(i) at every inner sample that has a q.

@@ -4,6 +4,7 @@ mod floor;
 mod offsets;
 mod ramp;
 mod rate;
+mod reading;
 mod rows;
 mod steps;
 mod torque;

@@ -6,6 +6,9 @@ ghost use lib.ListN.{length};
 ghost use Rattle.grade.specs.Ranks.{ranks};
 ghost use Rattle.limit.specs.Numbers.{KeptExactly, Greatest};
 ghost use Rattle.motion.specs.Ramps.{before, after, ramp, WithinSteps, WithinStepsAt};
+use super::reading::samples;
+use super::reading::unbounded;
+use super::reading::value;
 use super::steps::Steps;
 use grade::Cell;
 use grade::Raisable;
@@ -21,8 +24,8 @@ pub impl<G: Raisable, S: Steps> Limit<G> for Ramp<S> as RampLimit {
     ghost number = { λ l p i. ramp (G·Grade .top) (S·Steps .steps (l .steps)) p i };
 
     fn evaluate(&self, cells: &[Cell<G>], at: usize) -> Option<G> {
-        if at >= cells.len() {
-            return Some(G::of_rank(G::highest()));
+        if at >= samples(cells) {
+            return Some(unbounded());
         }
         let risen = from_before(&self.steps, cells, at);
         let fallen = from_after(&self.steps, cells, at);
@@ -30,25 +33,27 @@ pub impl<G: Raisable, S: Steps> Limit<G> for Ramp<S> as RampLimit {
     }
 }
 
+// The sample before, raised by up of the gap between.
 fn from_before<G: Raisable, S: Steps>(steps: &S, cells: &[Cell<G>], at: usize) -> G
     requires { ⌜ at < length (now cells) ⌝ }
     ensures { λ r. ⌜ pos (G·Grade .rank r) ≡ before (G·Grade .top) (S·Steps .steps (now (steps .entry))) (ranks (G·Grade .rank) (now (cells .entry))) at ⌝ }
 {
     if at > 0 && at <= steps.len() {
-        cells[at - 1].value.raise(steps.up(at - 1))
+        value(cells, at - 1).raise(steps.up(at - 1))
     } else {
-        G::of_rank(G::highest())
+        unbounded()
     }
 }
 
+// The sample after, raised by down of the gap between.
 fn from_after<G: Raisable, S: Steps>(steps: &S, cells: &[Cell<G>], at: usize) -> G
     requires { ⌜ at < length (now cells) ⌝ }
     ensures { λ r. ⌜ pos (G·Grade .rank r) ≡ after (G·Grade .top) (S·Steps .steps (now (steps .entry))) (ranks (G·Grade .rank) (now (cells .entry))) at ⌝ }
 {
-    if at < steps.len() && at + 1 < cells.len() {
-        cells[at + 1].value.raise(steps.down(at))
+    if at < steps.len() && at + 1 < samples(cells) {
+        value(cells, at + 1).raise(steps.down(at))
     } else {
-        G::of_rank(G::highest())
+        unbounded()
     }
 }
 

@@ -7,11 +7,13 @@ ghost use Rattle.grade.specs.Tops.{speedTop};
 ghost use Rattle.limit.specs.Numbers.{numberOf, KeptExactly, Greatest};
 ghost use Rattle.motion.specs.Rows.{rowAt, Sound, WithinTorque, WithinTorqueAt};
 ghost use Rattle.motion.specs.Torques.{allowsAfter, allowsBefore, allows, torque};
+use super::reading::samples;
+use super::reading::unbounded;
+use super::reading::value;
 use super::rows::Row;
 use super::rows::Rows;
 use super::triple::Triple;
 use grade::Cell;
-use grade::Grade;
 use grade::Speed;
 use grade::SpeedGrade;
 use grade::lower;
@@ -28,7 +30,7 @@ pub impl<R: Rows> Limit<Speed> for Torque<R> as TorqueLimit {
     fn evaluate(&self, cells: &[Cell<Speed>], at: usize) -> Option<Speed> {
         let rows = &self.rows;
         let h = rows.spacing();
-        let mut least = Speed::of_rank(Speed::highest());
+        let mut least: Speed = unbounded();
         let mut k = first_row(rows, at);
         while k < rows.len() {
             let row = rows.row(k);
@@ -75,10 +77,10 @@ fn after_gap(h: u16, row: Row, cells: &[Cell<Speed>], at: usize) -> Option<Speed
     requires { ⌜ Sound h row ⌝ }
     ensures { λ r. ⌜ numberOf speedRank r ≡ allowsAfter h (ranks speedRank (now (cells .entry))) at row ⌝ }
 {
-    if row.gap as usize + 1 == at && at < cells.len() {
-        Triple::on_right(h, row).bound(cells[at - 1].value)
+    if row.gap as usize + 1 == at && at < samples(cells) {
+        Triple::on_right(h, row).bound(value(cells, at - 1))
     } else {
-        Some(Speed::of_rank(Speed::highest()))
+        Some(unbounded())
     }
 }
 
@@ -86,10 +88,10 @@ fn before_gap(h: u16, row: Row, cells: &[Cell<Speed>], at: usize) -> Option<Spee
     requires { ⌜ Sound h row ⌝ }
     ensures { λ r. ⌜ numberOf speedRank r ≡ allowsBefore h (ranks speedRank (now (cells .entry))) at row ⌝ }
 {
-    if row.gap as usize == at && at + 1 < cells.len() {
-        Triple::on_left(h, row).bound(cells[at + 1].value)
+    if row.gap as usize == at && at + 1 < samples(cells) {
+        Triple::on_left(h, row).bound(value(cells, at + 1))
     } else {
-        Some(Speed::of_rank(Speed::highest()))
+        Some(unbounded())
     }
 }
 

@@ -8,7 +8,7 @@ ghost use lib.IntN.{pos, natAbs, _-ℤ_, _*ℤ_};
 ghost use Rattle.grade.specs.Ranks.{speedRank};
 ghost use Rattle.limit.specs.Numbers.{numberOf};
 ghost use Rattle.motion.specs.Rows.{Sound, weight};
-ghost use Rattle.motion.specs.Torques.{Fit, onRight, onLeft, bound};
+ghost use Rattle.motion.specs.Torques.{roomAbove, roomBelow, onRight, onLeft, Fit, bound};
 use super::floor::floor_bound;
 use super::rows::Row;
 use super::rows::scaled;
@@ -34,9 +34,9 @@ impl Triple {
             own: row.d.unsigned_abs(),
             near: weight_size(h, row),
             constant: if row.d < 0 {
-                room(h, row.g, row.lo)
+                room_below(h, row)
             } else {
-                room(h, row.hi, row.g)
+                room_above(h, row)
             },
         }
     }
@@ -51,9 +51,9 @@ impl Triple {
             own: weight_size(h, row),
             near: row.d.unsigned_abs(),
             constant: if row.d < 0 {
-                room(h, row.hi, row.g)
+                room_above(h, row)
             } else {
-                room(h, row.g, row.lo)
+                room_below(h, row)
             },
         }
     }
@@ -68,8 +68,24 @@ impl Triple {
     }
 }
 
+// 2h × (hi − g)
+fn room_above(h: u16, row: Row) -> i64
+    ensures value { λ r. ⌜ r ≡ roomAbove h row ⌝ }
+    ensures small { λ r. ⌜ natAbs r ≤ 2 ^ 49 ⌝ }
+{
+    difference(h, row.hi, row.g)
+}
+
+// 2h × (g − lo)
+fn room_below(h: u16, row: Row) -> i64
+    ensures value { λ r. ⌜ r ≡ roomBelow h row ⌝ }
+    ensures small { λ r. ⌜ natAbs r ≤ 2 ^ 49 ⌝ }
+{
+    difference(h, row.g, row.lo)
+}
+
 // 2h × (upper − lower)
-fn room(h: u16, upper: i32, lower: i32) -> i64
+fn difference(h: u16, upper: i32, lower: i32) -> i64
     ensures value { λ r. ⌜ r ≡ pos (2 * h) *ℤ (upper -ℤ lower) ⌝ }
     ensures small { λ r. ⌜ natAbs r ≤ 2 ^ 49 ⌝ }
 {

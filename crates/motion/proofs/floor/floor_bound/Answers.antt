@@ -1,10 +1,7 @@
 use mathlib.Core.Path.{_≡_, _∙_}
 use mir.Facts.{toZ-ofZ}
 use lib.IntN.{pos}
-use lib.Signed.{ltZ}
-use native.Mathlib.Omega.{arith}
-use Rattle.std.proofs.shelf.Signed.{ints}
-use Rattle.std.specs.declared.option.Option.the-variants.{Some, None}
+use Rattle.std.specs.declared.option.Option.the-variants.{Some}
 use Rattle.grade.specs.Ranks.{speedRank}
 use Rattle.grade.specs.Tops.{speedTop}
 use Rattle.limit.proofs.Numbers.{greatest-by}

@@ -1,4 +1,3 @@
-use mathlib.Core.Path.{_∙_}
 use native.Mathlib.Omega.{arith}
 use Rattle.grade.specs.Ranks.{ranks}
 use Rattle.grade.specs.Ranks.{speedRank}
@@ -9,7 +8,7 @@ pub loop-k-holds : need.loop-k-holds
 loop-k-holds g c =
     let rows = c .args .self .now .rows in
     rest-first (g .R·Rows .spacing rows) (g .R·Rows .rows rows) (g .R·Rows .sound rows) (ranks speedRank (c .args .cells .now)) (c .args .at)
-    (c .first-row-k .result) _ (c .first-row-k .ensures .within) (c .first-row-k .ensures .before) (c .of-rank-least .ensures ∙ c .highest .ensures)
+    (c .first-row-k .result) _ (c .first-row-k .ensures .within) (c .first-row-k .ensures .before) (c .unbounded-least .ensures)
 
 pub returns-then-row-at : need.returns-then-row-at
 returns-then-row-at g c =

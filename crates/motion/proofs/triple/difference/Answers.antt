@@ -1,9 +1,9 @@
 use native.Mathlib.Omega.{arith}
 use lib.IntN.{_-ℤ_}
-use mir.Syntax.{w32, w64}
+use mir.Syntax.{w64}
 use mir.Val.{SFits}
 use Rattle.std.proofs.shelf.Signed.{ints, toZ-ofZ}
-use Rattle.motion.proofs.triple.room.Needs as need
+use Rattle.motion.proofs.triple.difference.Needs as need
 
 pub returns : need.returns
 returns c =
