@@ -5,5 +5,6 @@ pub mod Moments
 pub mod Ramps
 pub mod Rates
 pub mod Scanning
+pub mod SpeedLimits
 pub mod Torques
 pub mod Widths
