@@ -1,6 +1,6 @@
 // The flooring leaf: the greatest squared speed that a factor leaves room for.
 ghost use mathlib.Core.Path.{_≡_};
-ghost use Prim.Native.Nat.{_*_, _≤_};
+ghost use Prim.Native.Nat.{_*_, _/_, _≤_, min};
 ghost use lib.IntN.{pos};
 ghost use lib.Signed.{_≤ℤ_};
 ghost use Rattle.grade.specs.Ranks.{speedRank};
@@ -20,6 +20,14 @@ pub(crate) fn floor_bound(factor: u32, n: i64) -> Option<Speed>
     if n < 0 {
         return None;
     }
-    let quotient = n as u64 / factor as u64;
-    Some(Speed::of_rank(quotient.min(Speed::TOP as u64) as u32))
+    Some(floored_quotient(factor, n as u64))
+}
+
+// The greatest g up to the top with factor × g ≤ n.
+fn floored_quotient(factor: u32, n: u64) -> Speed
+    requires { ⌜ 1 ≤ factor ⌝ }
+    ensures { λ r. ⌜ speedRank r ≡ min (n / factor) speedTop ⌝ }
+{
+    let quotient = n / factor as u64;
+    Speed::of_rank(quotient.min(Speed::TOP as u64) as u32)
 }

@@ -2,7 +2,7 @@
 ghost use mathlib.Core.Path.{_≡_};
 ghost use mathlib.Core.List.{List};
 ghost use Prim.Native.Nat.{ℕ, _*_, _^_, _≤_, _<_};
-ghost use lib.IntN.{pos, natAbs, _*ℤ_};
+ghost use lib.IntN.{pos, natAbs, _-ℤ_, _*ℤ_};
 ghost use lib.ListN.{length};
 ghost use Rattle.motion.specs.declared.rows.Row.{Row};
 ghost use Rattle.motion.specs.Rows.{weight, rowAt, SoundRows};
@@ -26,8 +26,15 @@ impl Row {
     pub fn weight(self, h: u16) -> i64
         ensures { λ r. ⌜ r ≡ weight h self ⌝ }
     {
-        self.d as i64 - scaled(h, self.c as i64)
+        weighed(h, self.d, self.c)
     }
+}
+
+// d − 2h × c
+fn weighed(h: u16, d: i32, c: i32) -> i64
+    ensures { λ r. ⌜ r ≡ d -ℤ pos (2 * h) *ℤ c ⌝ }
+{
+    d as i64 - scaled(h, c as i64)
 }
 
 // 2h × n. At |n| ≤ 2^32, as for a difference of two of a row's numbers, it stays within 2^49.

@@ -1,4 +1,4 @@
-use mathlib.Core.Path.{_≡_, _∙_}
+use mathlib.Core.Path.{_≡_}
 use mir.Facts.{toZ-ofZ}
 use lib.IntN.{pos}
 use Rattle.std.specs.declared.option.Option.the-variants.{Some}
@@ -12,9 +12,9 @@ use Rattle.motion.proofs.floor.floor_bound.Needs as need
 pub returns : need.returns
 returns c =
     let f = c .fits .n in
-    let e : pos (c .of-rank .result .value) ≡ floored (c .args .factor) (c .args .n) =
-    floored-is (c .args .factor) (c .of-rank .result .value) (c .args .n) (simp toZ-ofZ at (c .if-n-lt0 .left)) (c .of-rank .ensures ∙ simp toZ-ofZ at (c .min .ensures)) in
+    let e : pos (speedRank (c .floored-quotient .result)) ≡ floored (c .args .factor) (c .args .n) =
+    floored-is (c .args .factor) (speedRank (c .floored-quotient .result)) (c .args .n) (simp toZ-ofZ at (c .if-n-lt0 .left)) (simp toZ-ofZ at (c .floored-quotient .ensures)) in
     record {
       number = e;
-      greatest = greatest-by speedRank speedTop (λ x. x .ok) _ (floored (c .args .factor) (c .args .n)) (λ g l. under-floored (c .args .factor) (c .args .n) g (c .pre) l) (Some (c .of-rank .result)) e;
+      greatest = greatest-by speedRank speedTop (λ x. x .ok) _ (floored (c .args .factor) (c .args .n)) (λ g l. under-floored (c .args .factor) (c .args .n) g (c .pre) l) (Some (c .floored-quotient .result)) e;
     }
