@@ -42,7 +42,7 @@ same : (s t : Bool) → cond s t (not t) ≡ true → s ≡ t
 same true t e = sym e
 same false t e = sym (not-true t e)
 
-is-sound : (h : ℕ) (r : Row) → soundRow h r ≡ true → Sound h r
+pub is-sound : (h : ℕ) (r : Row) → soundRow h r ≡ true → Sound h r
 is-sound h r e =
     let both = and-parts (smallRow r) (weighs (r .d) (weight h r)) e in
     let d = and-parts (small (r .d)) (small (r .c) && (small (r .g) && (small (r .lo) && small (r .hi)))) (both .0) in
@@ -97,7 +97,7 @@ same-too true false e = sym e
 same-too false true e = e
 same-too false false e = refl
 
-sound-is : (h : ℕ) (r : Row) → Sound h r → soundRow h r ≡ true
+pub sound-is : (h : ℕ) (r : Row) → Sound h r → soundRow h r ≡ true
 sound-is h r s =
     let fits : (n : ℤ) → natAbs n ≤ rowSize → small n ≡ true = λ n l. le-leb (natAbs n) rowSize l in
     and-from _ _
