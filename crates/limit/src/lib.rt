@@ -6,5 +6,5 @@ pub use limit::Limit;
 pub use limit::lawful;
 pub use pair::Pair;
 pub use pair::PairLimit;
-pub use pair::greatest_by_both;
-pub use pair::kept_by_both;
+pub use pair::pair_greatest;
+pub use pair::pair_kept_exactly;

@@ -25,12 +25,12 @@ pub impl<G: Grade, A: Limit<G>, B: Limit<G>> Limit<G> for Pair<A, B> as PairLimi
 }
 
 // A profile keeps a pair exactly when it keeps both.
-pub fn kept_by_both<G: Grade, A: Limit<G>, B: Limit<G>>(limit: &Pair<A, B>)
+pub fn pair_kept_exactly<G: Grade, A: Limit<G>, B: Limit<G>>(limit: &Pair<A, B>)
     ensures { λ _. ⌜ ((p : Profile) → Keeps (both (A·Limit .number (now (limit .entry) .first)) (B·Limit .number (now (limit .entry) .second))) p ↔ (Keeps (A·Limit .number (now (limit .entry) .first)) p × Keeps (B·Limit .number (now (limit .entry) .second)) p)) ⌝ }
 {}
 
 // What a pair gives is the greatest grade that both limits allow at the sample.
-pub fn greatest_by_both<G: Grade, A: Limit<G>, B: Limit<G>>(
+pub fn pair_greatest<G: Grade, A: Limit<G>, B: Limit<G>>(
     limit: &Pair<A, B>,
     cells: &[Cell<G>],
     at: usize,

@@ -1,5 +1,5 @@
 use Rattle.limit.proofs.Numbers.{under-min, greatest-by}
-use Rattle.limit.proofs.pair.greatest_by_both.Needs as need
+use Rattle.limit.proofs.pair.pair_greatest.Needs as need
 
 pub returns : need.returns
 returns g c =
