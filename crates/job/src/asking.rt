@@ -98,12 +98,7 @@ impl Job {
         ensures room { λ r. ⌜ made r (λ _. (now (self .entry) .samples .count ≤ classes) × (now (self .entry) .samples .count ≤ speeds)) ⌝ }
         ensures range { λ r. ⌜ made r (λ _. InRange (now (self .entry) .samples .count) call) ⌝ }
     {
-        if classes < self.samples.count {
-            return Err(Fault::NoClassMemory);
-        }
-        if speeds < self.samples.count {
-            return Err(Fault::NoSpeedMemory);
-        }
+        self.ask_room(classes, speeds)?;
         self.ask_call(call)
     }
 }

@@ -17,4 +17,3 @@ pub use stepping::sweep_step;
 pub use sweeping::FRESH;
 pub use sweeping::Outcome;
 pub use totalling::total;
-pub use visiting::visit;
