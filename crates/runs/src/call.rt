@@ -3,6 +3,8 @@ ghost use mathlib.Core.Path.{_≡_};
 ghost use Rattle.runs.specs.Faults.{questionOf};
 use super::stage::Make;
 use super::stage::Stage;
+use super::stage::StageDebug;
+use super::stage::StagePartialEq;
 
 // A call with its numbers, each any that 64 bits hold.
 #[derive(Clone, Copy)]
@@ -18,7 +20,7 @@ pub enum Call {
 }
 
 // Why a call is refused: the first question that is answered no.
-#[derive(Clone, Copy)]
+#[derive(Clone, Copy, PartialEq, Eq, Debug)]
 pub enum Fault {
     BadCount,
     NoClassMemory,
@@ -43,7 +45,7 @@ impl Fault {
     }
 }
 
-#[derive(Clone, Copy)]
+#[derive(Clone, Copy, PartialEq, Eq, Debug)]
 pub enum Answer {
     Refused(Fault),
     // Where an advance came, in how many evaluations, and how many of them lowered a value.

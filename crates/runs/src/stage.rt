@@ -1,13 +1,13 @@
 // Where a job is in its work.
 
 // The two makes of grade, a sheet for each.
-#[derive(Clone, Copy)]
+#[derive(Clone, Copy, PartialEq, Eq, Debug)]
 pub enum Make {
     Classes,
     Speeds,
 }
 
-#[derive(Clone, Copy)]
+#[derive(Clone, Copy, PartialEq, Eq, Debug)]
 pub enum Stage {
     // Sweeps go over the sheet of this make.
     Working(Make),
