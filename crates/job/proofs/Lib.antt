@@ -1,0 +1,10 @@
+pub mod Acting
+pub mod Beginning
+pub mod Cuts
+pub mod Evaluating
+pub mod Fuel
+pub mod Grading
+pub mod Lawful
+pub mod Pours
+pub mod Rooms
+pub mod Sums

@@ -1,0 +1,9 @@
+pub mod Allowing
+pub mod Calling
+pub mod Changes
+pub mod Grades
+pub mod Holding
+pub mod Making
+pub mod Steps
+pub mod Table
+pub mod Whole

@@ -1,0 +1,17 @@
+pub mod Findings
+pub mod Cells
+pub mod Standing
+pub mod Lowering
+pub mod Visits
+pub mod Sweeping
+pub mod Tightening
+pub mod Cutting
+pub mod Lifting
+pub mod Advancing
+pub mod Making
+pub mod Calling
+pub mod Potential
+pub mod Ending
+pub mod Runs
+pub mod Alike
+pub mod Law

@@ -1,0 +1,12 @@
+pub mod Counts
+pub mod Faults
+pub mod Settings
+pub mod Sheets
+pub mod Jobs
+pub mod Evaluations
+pub mod Making
+pub mod Calls
+pub mod Runs
+pub mod InForce
+pub mod Keeping
+pub mod Law

@@ -1,0 +1,3 @@
+pub mod Folding
+pub mod Naming
+pub mod Plans
