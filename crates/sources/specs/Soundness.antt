@@ -9,8 +9,7 @@ use lib.IntN.{ℤ, pos, natAbs}
 use lib.Signed.{ltZ}
 use lib.ListN.{length, getD}
 use Rattle.std.proofs.shelf.Lists.{getD-map, length-map}
-use Rattle.std.proofs.shelf.Tests.{and-parts, leb-true, ltb-true, not-true, cond-false}
-use Rattle.std.proofs.shelf.Ways.{tells}
+use Rattle.std.proofs.shelf.Tests.{and-parts, leb-true, ltb-true, not-true, ne-eqb, cond-false}
 use Rattle.std.specs.declared.option.Option.{Option}
 use Rattle.std.specs.declared.option.Option.the-variants.{Some, None}
 use Rattle.words.specs.Words.{be16At}
@@ -88,7 +87,7 @@ module _ (bs : List ℕ) (e : accepted bs ≡ true) where
   -- the gap that a row is asked to be no lower than is that of the row before
   before-is : (k : ℕ) → gapBefore bs h (suc k) ≡ be16At bs (rowsAt (h .samples) + 24 * k + 0)
   before-is k =
-      let t : eqb (suc k) 0 ≡ false = grind (arith, tells) in
+      let t : eqb (suc k) 0 ≡ false = ne-eqb (suc k) 0 (λ e. omega arith) in
       let z : rowsAt (h .samples) + 24 * (suc k - 1) ≡ rowsAt (h .samples) + 24 * k + 0 = omega arith in
       cond-false (eqb (suc k) 0) 0 (be16At bs (rowsAt (h .samples) + 24 * (suc k - 1))) t ∙ ap (be16At bs) z
 
