@@ -16,7 +16,7 @@ use motion::Torque;
 
 /// The class limit of a frame: a ramp over rise and fall of its gaps.
 pub fn class_limit<'a>(frame: PathFrame<'a>) -> Ramp<ClassSteps<'a>>
-    ensures reads { λ r. ⌜ now (r .steps .frame .bytes) ≡ now (frame .entry .bytes) ⌝ }
+    ensures steps { λ r. ⌜ now (r .steps .frame .bytes) ≡ now (frame .entry .bytes) ⌝ }
     ensures kept { λ _. ⌜ KeptExactly classTop (classNumber (pathOf (now (frame .entry .bytes)))) (WithinClassLimit (pathOf (now (frame .entry .bytes)))) ⌝ }
 {
     Ramp {
@@ -28,7 +28,9 @@ pub fn class_limit<'a>(frame: PathFrame<'a>) -> Ramp<ClassSteps<'a>>
 pub fn speed_limit<'a>(
     frame: PathFrame<'a>,
 ) -> Pair<Ramp<SpeedSteps<'a>>, Pair<Average<FrameOffsets<'a>>, Torque<FrameRows<'a>>>>
-    ensures reads { λ r. ⌜ now (r .first .steps .frame .bytes) ≡ now (frame .entry .bytes) ⌝ ∗ ⌜ now (r .second .first .offsets .frame .bytes) ≡ now (frame .entry .bytes) ⌝ ∗ ⌜ now (r .second .second .rows .frame .bytes) ≡ now (frame .entry .bytes) ⌝ }
+    ensures steps { λ r. ⌜ now (r .first .steps .frame .bytes) ≡ now (frame .entry .bytes) ⌝ }
+    ensures offsets { λ r. ⌜ now (r .second .first .offsets .frame .bytes) ≡ now (frame .entry .bytes) ⌝ }
+    ensures rows { λ r. ⌜ now (r .second .second .rows .frame .bytes) ≡ now (frame .entry .bytes) ⌝ }
     ensures kept { λ _. ⌜ KeptExactly speedTop (speedNumber (pathOf (now (frame .entry .bytes)))) (WithinSpeedLimit (pathOf (now (frame .entry .bytes)))) ⌝ }
 {
     Pair {

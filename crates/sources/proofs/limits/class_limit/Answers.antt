@@ -6,4 +6,4 @@ use Rattle.sources.specs.Sources.{classSteps}
 use Rattle.sources.proofs.limits.class_limit.Needs as need
 
 pub returns : need.returns
-returns c = record { reads = refl; kept = keeps-ramp classTop (classSteps (pathOf (c .args .frame .bytes .now))) }
+returns c = record { steps = refl; kept = keeps-ramp classTop (classSteps (pathOf (c .args .frame .bytes .now))) }

@@ -9,4 +9,4 @@ pub returns : need.returns
 returns c =
     let bs = c .args .frame .bytes .now in
     let p = pathOf bs in
-    record { reads = (refl, (refl, refl)); kept = keeps-speed-limit (speedSteps p) (offsetsOf p) (p .header .spacing) (rowsOf p) (rows-sound bs (c .args .frame .sound)) }
+    record { steps = refl; offsets = refl; rows = refl; kept = keeps-speed-limit (speedSteps p) (offsetsOf p) (p .header .spacing) (rowsOf p) (rows-sound bs (c .args .frame .sound)) }

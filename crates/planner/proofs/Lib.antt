@@ -1,0 +1,4 @@
+pub mod Caps
+pub mod Bounds
+pub mod Fills
+pub mod Plans

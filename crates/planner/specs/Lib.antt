@@ -1,0 +1,3 @@
+pub mod Asking
+pub mod Starts
+pub mod Planning
