@@ -27,7 +27,7 @@ use words::be16;
 use words::be32;
 
 // The header's fields as they lie.
-pub fn header_at(bytes: &[u8]) -> Header
+pub(crate) fn header_at(bytes: &[u8]) -> Header
     requires { ⌜ 15 ≤ length (now bytes) ⌝ }
     ensures { λ r. ⌜ r ≡ headerAt (now (bytes .entry)) ⌝ }
 {

@@ -6,7 +6,7 @@ use super::layout;
 use record::Asked;
 
 /// What a question is about.
-#[derive(Clone, Copy, PartialEq, Eq, Debug)]
+#[derive(Clone, Copy)]
 pub enum Layer {
     Frame,
     Sample,

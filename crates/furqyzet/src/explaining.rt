@@ -1,7 +1,7 @@
 // Refusals and records in words.
+use clause::CapClause;
 use frame::Layer;
 use frame::Refusal;
-use record::CapClause;
 use std::fmt;
 
 pub fn layer_name(layer: Layer) -> &'static str {

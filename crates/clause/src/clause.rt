@@ -1,17 +1,22 @@
 // A cap clause: what bounds the squared speed of a sample from above.
 ghost use mathlib.Core.Path.{_≡_};
-ghost use Rattle.record.specs.Clauses.{speedRead, clauseRead, clauseWords, Legal, ClauseCap};
+ghost use Rattle.clause.specs.Clauses.{speedRead, clauseRead, clauseWords, Legal, ClauseCap};
 use super::bits::is_finite;
 use super::bits::is_negative;
 use super::bits::number;
 use super::bits::pattern;
-use super::layout::KIND_BEND;
-use super::layout::KIND_FIXED;
-use super::layout::KIND_FREE;
-use super::layout::KIND_STRAIGHT;
 use caps::MOST;
 use caps::bend_cap;
 use caps::speed_cap;
+
+// The kinds of cap clause, as a frame numbers them.
+const KIND_FREE: u8 = 0;
+
+const KIND_STRAIGHT: u8 = 1;
+
+const KIND_BEND: u8 = 2;
+
+pub const KIND_FIXED: u8 = 3;
 
 // A bend: a top speed in m/s and a signed curvature in 1/m.
 #[derive(Clone, Copy)]
@@ -40,7 +45,7 @@ pub struct ClauseWords {
 }
 
 // A number that does not fit the clause's kind.
-#[derive(Clone, Copy, PartialEq, Eq, Debug)]
+#[derive(Clone, Copy)]
 pub enum ClauseFault {
     TopSpeedNotFinite,
     TopSpeedNegative,

@@ -8,13 +8,13 @@ use Rattle.std.specs.declared.result.Result.{Result}
 use Rattle.std.specs.declared.result.Result.the-variants.{Ok, Err}
 use Rattle.caps.specs.Floats.{bitsOf, finiteBits, significand, shift}
 use Rattle.caps.specs.Caps.{SpeedCap, BendCap}
-use Rattle.record.specs.declared.clause.Bend.{Bend as BendOf}
-use Rattle.record.specs.declared.clause.ClauseWords.{ClauseWords}
-use Rattle.record.specs.declared.clause.CapClause.{CapClause}
-use Rattle.record.specs.declared.clause.CapClause.the-variants.{Free, Straight, Bend, Fixed}
-use Rattle.record.specs.declared.clause.ClauseFault.{ClauseFault}
-use Rattle.record.specs.declared.clause.ClauseFault.the-variants.{TopSpeedNotFinite, TopSpeedNegative, CurvatureNotFinite, FixedTooGreat, FirstNotZero, SecondNotZero}
-use Rattle.record.specs.Asking.{ask, within}
+use Rattle.clause.specs.declared.clause.Bend.{Bend as BendOf}
+use Rattle.clause.specs.declared.clause.ClauseWords.{ClauseWords}
+use Rattle.clause.specs.declared.clause.CapClause.{CapClause}
+use Rattle.clause.specs.declared.clause.CapClause.the-variants.{Free, Straight, Bend, Fixed}
+use Rattle.clause.specs.declared.clause.ClauseFault.{ClauseFault}
+use Rattle.clause.specs.declared.clause.ClauseFault.the-variants.{TopSpeedNotFinite, TopSpeedNegative, CurvatureNotFinite, FixedTooGreat, FirstNotZero, SecondNotZero}
+use Rattle.clause.specs.Asking.{ask, within}
 
 -- ---- reading
 

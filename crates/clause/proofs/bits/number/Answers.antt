@@ -1,6 +1,6 @@
 use mathlib.Core.Path.{refl}
-use Rattle.record.proofs.Patterns.{number-bits, back}
-use Rattle.record.proofs.bits.number.Needs as need
+use Rattle.clause.proofs.Patterns.{number-bits, back}
+use Rattle.clause.proofs.bits.number.Needs as need
 
 pub float-from-bits-result : need.float-from-bits-result
 float-from-bits-result c = number-bits (c .args .bits) (c .pre)

@@ -5,7 +5,7 @@ use Prim.Native.Nat.{ℕ}
 use native.Mathlib.Omega.{arith}
 use Rattle.std.specs.declared.result.Result.{Result}
 use Rattle.std.specs.declared.result.Result.the-variants.{Ok, Err}
-use Rattle.record.specs.Asking.{ask, within}
+use Rattle.clause.specs.Asking.{ask, within}
 
 pub passed : {A F : Type 0} (b : Bool) (f : F) (next : Result A F) (v : A) → ask b f next ≡ Ok v → (b ≡ true) × (next ≡ Ok v)
 passed true f next v e = (refl, e)

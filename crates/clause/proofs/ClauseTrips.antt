@@ -9,15 +9,15 @@ use Rattle.std.proofs.shelf.Tests.{eqb-true, eqb-false}
 use Rattle.std.specs.declared.result.Result.{Result}
 use Rattle.std.specs.declared.result.Result.the-variants.{Ok, Err}
 use Rattle.caps.specs.Floats.{bitsOf, finiteBits}
-use Rattle.record.specs.declared.clause.ClauseWords.{ClauseWords}
-use Rattle.record.specs.declared.clause.CapClause.{CapClause}
-use Rattle.record.specs.declared.clause.CapClause.the-variants.{Free, Straight, Bend, Fixed}
-use Rattle.record.specs.declared.clause.ClauseFault.{ClauseFault}
-use Rattle.record.specs.declared.clause.ClauseFault.the-variants.{TopSpeedNotFinite, TopSpeedNegative, CurvatureNotFinite, FixedTooGreat, FirstNotZero, SecondNotZero}
-use Rattle.record.specs.Asking.{ask, within}
-use Rattle.record.specs.Clauses.{negativeBits, speedRead, clauseRead, clauseWords, Legal, bend}
-use Rattle.record.proofs.Patterns.{back}
-use Rattle.record.proofs.Questions.{passed, passed-within, chosen}
+use Rattle.clause.specs.declared.clause.ClauseWords.{ClauseWords}
+use Rattle.clause.specs.declared.clause.CapClause.{CapClause}
+use Rattle.clause.specs.declared.clause.CapClause.the-variants.{Free, Straight, Bend, Fixed}
+use Rattle.clause.specs.declared.clause.ClauseFault.{ClauseFault}
+use Rattle.clause.specs.declared.clause.ClauseFault.the-variants.{TopSpeedNotFinite, TopSpeedNegative, CurvatureNotFinite, FixedTooGreat, FirstNotZero, SecondNotZero}
+use Rattle.clause.specs.Asking.{ask, within}
+use Rattle.clause.specs.Clauses.{negativeBits, speedRead, clauseRead, clauseWords, Legal, bend}
+use Rattle.clause.proofs.Patterns.{back}
+use Rattle.clause.proofs.Questions.{passed, passed-within, chosen}
 
 -- a top speed that was read has the pattern that it was read from
 speed-back : (b : ℕ) (v : Float) → b < 2 ^ 32 → speedRead b ≡ Ok v → bitsOf v ≡ b

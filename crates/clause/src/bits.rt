@@ -9,21 +9,21 @@ const SIGN: u32 = 0x8000_0000;
 // The pattern of infinity: every finite number's, without the sign, is below it.
 const INFINITY: u32 = 0x7f80_0000;
 
-pub fn is_finite(bits: u32) -> bool
+pub(crate) fn is_finite(bits: u32) -> bool
     ensures { λ r. ⌜ r ≡ finiteBits bits ⌝ }
 {
     bits % SIGN < INFINITY
 }
 
 // Is it below zero? Minus zero is not.
-pub fn is_negative(bits: u32) -> bool
+pub(crate) fn is_negative(bits: u32) -> bool
     ensures { λ r. ⌜ r ≡ negativeBits bits ⌝ }
 {
     bits > SIGN
 }
 
 // The number of a finite pattern.
-pub fn number(bits: u32) -> f32
+pub(crate) fn number(bits: u32) -> f32
     requires { ⌜ finiteBits bits ≡ true ⌝ }
     ensures value { λ r. ⌜ r ≡ ofBits binary32 bits ⌝ }
     ensures pattern { λ r. ⌜ bitsOf r ≡ bits ⌝ }
@@ -32,11 +32,11 @@ pub fn number(bits: u32) -> f32
 }
 
 // The pattern of a finite number.
-pub fn pattern(v: f32) -> u32
+pub(crate) fn pattern(v: f32) -> u32
     requires { ⌜ finiteBits (bitsOf v) ≡ true ⌝ }
     ensures { λ r. ⌜ r ≡ bitsOf v ⌝ }
 {
     v.to_bits()
 }
 
-ghost use Rattle.record.specs.Clauses.{negativeBits};
+ghost use Rattle.clause.specs.Clauses.{negativeBits};
