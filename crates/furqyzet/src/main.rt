@@ -2,11 +2,14 @@
 mod checking;
 mod explaining;
 mod files;
+mod path;
+mod planning;
 mod replaying;
 mod rewriting;
 mod script;
 
 use checking::check;
+use planning::plan_file;
 use replaying::replay;
 use rewriting::rewrite_file;
 use std::env;
@@ -17,12 +20,13 @@ const VERSION: &str = "furqyzet 0.1.0";
 const HELP: &str = "furqyzet: speed planning for sampled paths, proved.
 
   furqyzet check FRAME          say what a path frame holds, or which question refuses it and where
+  furqyzet plan FRAME           plan the path and print its classes and speeds, or say that no table fits
   furqyzet rewrite FRAME OUT    write the frame's records to OUT
   furqyzet replay SCRIPT        make the calls of a script, one to a line, and print one answer to a line
   furqyzet help                 this page
   furqyzet --version            the version
 
-The status is 0, or 1 where a frame is refused, a file can't be read or written, or a script breaks off.";
+The status is 0, or 1 where a frame is refused, a path is impossible, a file can't be read or written, or a script breaks off.";
 
 // How a command ended; the reason is printed already.
 #[derive(Clone, Copy)]
@@ -55,6 +59,9 @@ fn command(rt: &LibcRuntime) -> Result<Ended, AnyError> {
     if words.len() == 2 && verb == "check" {
         return check(rt, words[1].as_str());
     }
+    if words.len() == 2 && verb == "plan" {
+        return plan_file(rt, words[1].as_str());
+    }
     if words.len() == 2 && verb == "replay" {
         return replay(rt, words[1].as_str());
     }
@@ -81,6 +88,7 @@ fn misused(rt: &LibcRuntime, verb: &str) -> Result<Ended, AnyError> {
             rt,
             "furqyzet: rewrite takes two files: furqyzet rewrite FRAME OUT"
         )?,
+        "plan" => eprintln!(rt, "furqyzet: plan takes one file: furqyzet plan FRAME")?,
         "replay" => eprintln!(
             rt,
             "furqyzet: replay takes one file: furqyzet replay SCRIPT"
