@@ -65,7 +65,7 @@ pub record Promises (call : Call) (h h′ : Held) (x : Answer) : Type 0 where
   pub does : (a b : Number) → Does a b call h h′ x
   pub law : (a b : Number) → LimitLaw classTop a → LimitLaw speedTop b → Lawful a b (call ∷ []) h h′
 
--- what a method returns, as an answer
+-- what an advance, a change and a look return, as answers
 abbrev pub told : Result Progress Fault → Answer
 told (Ok p) = Advanced (p .stage) (p .evaluations) (p .lowerings)
 told (Err f) = Refused f
