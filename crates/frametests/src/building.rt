@@ -5,8 +5,11 @@ use std::alloc::AllocError;
 use std::alloc::Global;
 
 pub const SAMPLES: usize = 15;
+
 pub const GAPS: usize = SAMPLES + 4 * 20;
+
 pub const ROWS: usize = GAPS + 3 * 12;
+
 pub const SIZE: usize = ROWS + 2 * 24;
 
 // Zero bytes, but for what a legal frame can't do without: version, length, counts, spacing, and two rows' d.

@@ -3,9 +3,13 @@ use super::building::cap;
 use std::test::*;
 
 const FREE: u8 = 0;
+
 const STRAIGHT: u8 = 1;
+
 const BEND: u8 = 2;
+
 const FIXED: u8 = 3;
+
 const MOST: u32 = 2147483647;
 
 #[test]

@@ -67,28 +67,31 @@ impl Path {
 
     fn add_gap(&mut self, frame: &PathFrame<'_>, index: usize) -> Result<(), AnyError> {
         if let Some(gap) = frame.gap(index) {
-            self.class_steps.push(Step {
-                up: gap.rise as u32,
-                down: gap.fall as u32,
-            })?;
-            self.speed_steps.push(Step {
-                up: gap.up,
-                down: gap.down,
-            })?;
+            self.class_steps
+                .push(Step {
+                    up: gap.rise as u32,
+                    down: gap.fall as u32,
+                })?;
+            self.speed_steps
+                .push(Step {
+                    up: gap.up,
+                    down: gap.down,
+                })?;
         }
         Ok(())
     }
 
     fn add_row(&mut self, frame: &PathFrame<'_>, index: usize) -> Result<(), AnyError> {
         if let Some(row) = frame.row(index) {
-            self.rows.push(Row {
-                gap: row.gap,
-                d: row.d,
-                c: row.c,
-                g: row.g,
-                lo: row.lo,
-                hi: row.hi,
-            })?;
+            self.rows
+                .push(Row {
+                    gap: row.gap,
+                    d: row.d,
+                    c: row.c,
+                    g: row.g,
+                    lo: row.lo,
+                    hi: row.hi,
+                })?;
         }
         Ok(())
     }

@@ -87,14 +87,14 @@ fn plan_path(rt: &LibcRuntime, header: Header, path: Path) -> Result<Ended, AnyE
 }
 
 // The answer of the advance that ends the work, under the path's own limits.
-fn planned(
+fn planned<'a>(
     header: Header,
     classes: &mut [Cell<Class>],
     speeds: &mut [Cell<Speed>],
-    class_steps: &[Step],
-    speed_steps: &[Step],
-    offsets: &[i32],
-    rows: RowSlice<'_>,
+    class_steps: &'a [Step],
+    speed_steps: &'a [Step],
+    offsets: &'a [i32],
+    rows: RowSlice<'a>,
 ) -> Result<Answer, AnyError> {
     let class_limit = Ramp {
         steps: StepSlice { steps: class_steps },
@@ -173,7 +173,10 @@ fn print_answer(
             evaluations,
             lowerings,
         } => {
-            println!(rt, "settled after {evaluations} evaluations and {lowerings} lowerings")?;
+            println!(
+                rt,
+                "settled after {evaluations} evaluations and {lowerings} lowerings"
+            )?;
             print_table(rt, classes, speeds)?;
             Ok(Ended::Done)
         }
@@ -181,7 +184,10 @@ fn print_answer(
             stage: Stage::Impossible(sample),
             ..
         } => {
-            println!(rt, "impossible: no table keeps every limit and every floor; found at sample {sample}")?;
+            println!(
+                rt,
+                "impossible: no table keeps every limit and every floor; found at sample {sample}"
+            )?;
             Ok(Ended::Failed)
         }
         _ => Err("the work did not end".into()),
