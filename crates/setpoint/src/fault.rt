@@ -20,7 +20,7 @@ impl SetpointFault {
         ensures { λ r. ⌜ r ≡ questionOf self ⌝ }
     {
         match self {
-            SetpointFault::Sheets(fault) => fault.number(),
+            SetpointFault::Sheets(found) => found.number(),
             SetpointFault::NotSettled => 70,
             SetpointFault::NoSetpointMemory => 71,
         }
