@@ -62,6 +62,13 @@ pub(crate) fn ask_memory(samples: usize, room: usize) -> Result<(), SetpointFaul
 }
 
 impl Released<'_> {
+    // How many bytes the setpoint frame has.
+    pub fn frame_size(&self) -> usize
+        ensures { λ r. ⌜ r ≡ sizeOf (now (self .entry)) ⌝ }
+    {
+        layout::frame_size(self.classes.len())
+    }
+
     // Writes the frame, for which there is room, and says how many bytes it has.
     pub(crate) fn put_frame(&self, out: &mut [u8]) -> usize
         requires { ⌜ sizeOf (now self) ≤ length (now out) ⌝ }
@@ -71,7 +78,7 @@ impl Released<'_> {
         let n = self.classes.len();
         put(out, layout::VERSION_AT, &header_bytes(n as u16));
         put_setpoints(self.classes, self.speeds, out);
-        layout::frame_size(n)
+        self.frame_size()
     }
 
     // Writes the setpoint frame and says how many bytes it has, the bytes past it untouched; where the memory is too
