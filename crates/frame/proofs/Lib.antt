@@ -5,3 +5,4 @@ pub mod Accepted
 pub mod Runs
 pub mod Again
 pub mod Shown
+pub mod InPlace

@@ -2,6 +2,7 @@
 use Prim.Native.Nat.{ℕ, zero, suc}
 use mathlib.Core.Path.{_≡_}
 use mathlib.Core.List.{List, [], _∷_}
+use lib.IntN.{ℤ}
 use Rattle.std.specs.declared.option.Option.{Option}
 use Rattle.std.specs.declared.option.Option.the-variants.{Some, None}
 use Rattle.std.specs.declared.result.Result.{Result}
@@ -24,6 +25,11 @@ abbrev pub nth : {A : Type 0} → List A → ℕ → Option A
 nth [] i = None
 nth (x ∷ xs) zero = Some x
 nth (x ∷ xs) (suc i) = nth xs i
+
+-- the offset q of a sample's average
+abbrev pub offsetIn : Option Sample → Option ℤ
+offsetIn None = None
+offsetIn (Some s) = Some (s .q)
 
 -- the cap that a sample's clause gives at the path's lateral number
 abbrev pub CapOf : ℕ → Option Sample → Option ℕ → Type 0

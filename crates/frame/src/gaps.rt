@@ -46,7 +46,7 @@ pub impl<'a> Records<Gap, GapFault> for Body<'a> as GapRecords {
 }
 
 impl Body<'_> {
-    fn gap_offset(&self, index: usize) -> usize
+    pub(crate) fn gap_offset(&self, index: usize) -> usize
         requires { ⌜ index < now self .header .samples ⌝ }
         ensures { λ r. ⌜ r ≡ gapsAt (now (self .entry) .header .samples) + 12 * index ⌝ }
     {

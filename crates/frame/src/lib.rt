@@ -3,6 +3,7 @@ mod body;
 mod fault;
 mod gaps;
 mod header;
+mod in_place;
 pub mod layout;
 mod reading;
 mod records;

@@ -49,7 +49,7 @@ pub impl<'a> Records<TorqueRow, RowFault> for Body<'a> as RowRecords {
 }
 
 impl Body<'_> {
-    fn row_offset(&self, index: usize) -> usize
+    pub(crate) fn row_offset(&self, index: usize) -> usize
         requires { ⌜ index < now self .header .rows ⌝ }
         ensures { λ r. ⌜ r ≡ rowsAt (now (self .entry) .header .samples) + 24 * index ⌝ }
     {

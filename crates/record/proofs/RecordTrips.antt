@@ -56,8 +56,18 @@ sample-words : (w : SampleWords) (c : ClauseWords) (z q : ℕ) → c ≡ w .clau
     → _≡_ {A = SampleWords} (record { clause = c; «class_cap» = w .«class_cap»; «class_floor» = w .«class_floor»; zero = z; «speed_floor» = w .«speed_floor»; q = q }) w
 sample-words w c z q d e f = λ i. record { clause = d i; «class_cap» = w .«class_cap»; «class_floor» = w .«class_floor»; zero = e i; «speed_floor» = w .«speed_floor»; q = f i }
 
-pub sample-facts : (end : Bool) (w : SampleWords) (s : Sample) → Word (w .clause .first) → Word (w .clause .second) → Word (w .q) → sampleRead end w ≡ Ok s → SampleFacts w s
-sample-facts end w s first second q e =
+-- what the questions tell of a sample that was read from words
+pub record SampleAsked (w : SampleWords) (s : Sample) : Type 0 where
+  pub kind : w .clause .kind ≤ 3
+  pub zero-byte : w .zero ≡ 0
+  pub class-cap : w .«class_cap» ≤ 7
+  pub class-floor : w .«class_floor» ≤ 7
+  pub clause : clauseRead (w .clause) ≡ Ok (s .clause)
+  pub speed-floor : w .«speed_floor» ≤ 2147483647
+  pub is : _≡_ {A = Sample} (record { clause = s .clause; «class_cap» = w .«class_cap»; «class_floor» = w .«class_floor»; «speed_floor» = w .«speed_floor»; q = toZ w32 (w .q) }) s
+
+pub sample-asked : (end : Bool) (w : SampleWords) (s : Sample) → sampleRead end w ≡ Ok s → SampleAsked w s
+sample-asked end w s e =
     let a = passed (leb (w .clause .kind) 3) sample.Kind _ s e in
     let b = passed (eqb (w .zero) 0) sample.ZeroByte _ s (a .1) in
     let d = passed (leb (w .«class_cap») 7) sample.ClassCap _ s (b .1) in
@@ -65,14 +75,26 @@ sample-facts end w s first second q e =
     let g = passed-within sample.Clause (clauseRead (w .clause)) _ s (f .1) in
     let h = passed (leb (w .«speed_floor») 2147483647) sample.SpeedFloor _ s (g .2) in
     let l = passed (cond end (eqb (w .q) 0) true) sample.EndOffset _ s (h .1) in
-    let kind = leb-true (w .clause .kind) 3 (a .0) in
     let is : _≡_ {A = Sample} (record { clause = g .0; «class_cap» = w .«class_cap»; «class_floor» = w .«class_floor»; «speed_floor» = w .«speed_floor»; q = toZ w32 (w .q) }) s = (let z = l .1 in cc) in
-    subst (SampleFacts w) is (record {
-      words = sample-words w (clauseWords (g .0)) 0 (ofZ w32 (toZ w32 (w .q))) (clause-back (w .clause) (g .0) first second kind (g .1)) (sym (eqb-true (w .zero) 0 (b .0))) (ofZ-toZ w32 (w .q) q);
-      legal = clause-legal (w .clause) (g .0) first second kind (g .1);
+    subst (SampleAsked w) is (record {
+      kind = leb-true (w .clause .kind) 3 (a .0);
+      zero-byte = eqb-true (w .zero) 0 (b .0);
       class-cap = leb-true (w .«class_cap») 7 (d .0);
       class-floor = leb-true (w .«class_floor») 7 (f .0);
+      clause = g .1;
       speed-floor = leb-true (w .«speed_floor») 2147483647 (h .0);
+      is = refl;
+    })
+
+pub sample-facts : (end : Bool) (w : SampleWords) (s : Sample) → Word (w .clause .first) → Word (w .clause .second) → Word (w .q) → sampleRead end w ≡ Ok s → SampleFacts w s
+sample-facts end w s first second q e =
+    let a = sample-asked end w s e in
+    subst (SampleFacts w) (a .is) (record {
+      words = sample-words w (clauseWords (s .clause)) 0 (ofZ w32 (toZ w32 (w .q))) (clause-back (w .clause) (s .clause) first second (a .kind) (a .clause)) (sym (a .zero-byte)) (ofZ-toZ w32 (w .q) q);
+      legal = clause-legal (w .clause) (s .clause) first second (a .kind) (a .clause);
+      class-cap = a .class-cap;
+      class-floor = a .class-floor;
+      speed-floor = a .speed-floor;
       offset = refl;
     })
 
@@ -106,9 +128,10 @@ gap-facts w g e =
 
 -- ---- torque rows
 
-pub record RowFacts (p : RowPlace) (w : RowWords) (r : TorqueRow) : Type 0 where
-  pub words : wordsOfRow r ≡ w
+-- what the questions tell of a row that was read from words
+pub record RowAsked (p : RowPlace) (w : RowWords) (r : TorqueRow) : Type 0 where
   pub row : r ≡ rowOf w
+  pub zero-bytes : w .zero ≡ 0
   pub gap : r .gap + 2 ≤ p .samples
   pub order : p .«gap_before» ≤ r .gap
   pub d-small : natAbs (r .d) ≤ most
@@ -118,6 +141,10 @@ pub record RowFacts (p : RowPlace) (w : RowWords) (r : TorqueRow) : Type 0 where
   pub hi-small : natAbs (r .hi) ≤ most
   pub d-some : 0 < natAbs (r .d)
   pub weighed : weighing (r .d) (weight (p .spacing) r) ≡ true
+
+pub record RowFacts (p : RowPlace) (w : RowWords) (r : TorqueRow) : Type 0 where
+  pub words : wordsOfRow r ≡ w
+  pub asked : RowAsked p w r
 
 pub record RowWordsFit (w : RowWords) : Type 0 where
   pub d : Word (w .d)
@@ -129,9 +156,9 @@ pub record RowWordsFit (w : RowWords) : Type 0 where
 row-words : (w : RowWords) → RowWordsFit w → 0 ≡ w .zero → wordsOfRow (rowOf w) ≡ w
 row-words w f z = λ i. record { gap = w .gap; zero = z i; d = ofZ-toZ w32 (w .d) (f .d) i; c = ofZ-toZ w32 (w .c) (f .c) i; g = ofZ-toZ w32 (w .g) (f .g) i; lo = ofZ-toZ w32 (w .lo) (f .lo) i; hi = ofZ-toZ w32 (w .hi) (f .hi) i }
 
-pub row-facts : (p : RowPlace) (w : RowWords) (r : TorqueRow) → RowWordsFit w → rowRead p w ≡ Ok r → RowFacts p w r
+pub row-asked : (p : RowPlace) (w : RowWords) (r : TorqueRow) → rowRead p w ≡ Ok r → RowAsked p w r
 unfolding numbersRead
-row-facts p w r fit e =
+row-asked p w r e =
     let a = passed (leb (w .gap + 2) (p .samples)) row.Gap _ r e in
     let b = passed (eqb (w .zero) 0) row.ZeroBytes _ r (a .1) in
     let c = passed (leb (p .«gap_before») (w .gap)) row.Order _ r (b .1) in
@@ -145,9 +172,9 @@ row-facts p w r fit e =
     let x = passed (ltb 0 (natAbs (t .d))) row.NoD _ r (n .2) in
     let y = passed (weighing (t .d) (weight (p .spacing) t)) row.Weight _ r (x .1) in
     let is : t ≡ r = (let z = y .1 in cc) in
-    subst (RowFacts p w) is (record {
-      words = row-words w fit (sym (eqb-true (w .zero) 0 (b .0)));
+    subst (RowAsked p w) is (record {
       row = refl;
+      zero-bytes = eqb-true (w .zero) 0 (b .0);
       gap = leb-true (w .gap + 2) (p .samples) (a .0);
       order = leb-true (p .«gap_before») (w .gap) (c .0);
       d-small = leb-true (natAbs (t .d)) most (d .0);
@@ -158,6 +185,9 @@ row-facts p w r fit e =
       d-some = ltb-true 0 (natAbs (t .d)) (x .0);
       weighed = y .0;
     })
+
+pub row-facts : (p : RowPlace) (w : RowWords) (r : TorqueRow) → RowWordsFit w → rowRead p w ≡ Ok r → RowFacts p w r
+row-facts p w r fit e = let a = row-asked p w r e in record { words = ap wordsOfRow (a .row) ∙ row-words w fit (sym (a .zero-bytes)); asked = a }
 
 -- ---- bytes
 

@@ -92,7 +92,8 @@ impl RowWords {
         }
     }
 
-    fn row(self) -> TorqueRow
+    // The row, of words that were asked before.
+    pub fn row(self) -> TorqueRow
         ensures { λ r. ⌜ r ≡ rowOf self ⌝ }
     {
         TorqueRow {
