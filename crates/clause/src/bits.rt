@@ -3,6 +3,7 @@ ghost use mathlib.Core.Path.{_≡_};
 ghost use mathlib.Core.Bool.{true};
 ghost use lib.Ieee.{ofBits, binary32};
 ghost use Rattle.caps.specs.Floats.{bitsOf, finiteBits};
+ghost use Rattle.clause.specs.Clauses.{negativeBits};
 
 // A pattern without its sign bit is below this.
 const SIGN: u32 = 0x8000_0000;
@@ -38,5 +39,3 @@ pub(crate) fn pattern(v: f32) -> u32
 {
     v.to_bits()
 }
-
-ghost use Rattle.clause.specs.Clauses.{negativeBits};

@@ -5,6 +5,7 @@ ghost use lib.ListN.{length};
 ghost use Rattle.std.specs.Vec.{made};
 ghost use Rattle.frame.specs.Layout.{frameSize};
 ghost use Rattle.frame.specs.Paths.{headerAt, fieldsRead, headerRead, bodyRead, headerOf, pathRead};
+ghost use Rattle.frame.specs.Records.{done};
 use super::body::Body;
 use super::fault::FrameFault;
 use super::fault::FrameFromGap;
@@ -101,5 +102,3 @@ pub fn read(bytes: &[u8]) -> Result<Header, FrameFault>
     ask_records(Body { bytes, header })?;
     Ok(header)
 }
-
-ghost use Rattle.frame.specs.Records.{done};

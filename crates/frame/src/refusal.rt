@@ -1,6 +1,8 @@
 // A refusal in numbers: which layer, which question, and where.
 ghost use mathlib.Core.Path.{_≡_};
 ghost use Rattle.frame.specs.Refusals.{refusalOf};
+ghost use Prim.Native.Nat.{_<_};
+ghost use Rattle.frame.specs.Refusals.{framed, recorded};
 use super::fault::FrameFault;
 use super::layout;
 use record::Asked;
@@ -69,6 +71,3 @@ impl FrameFault {
         }
     }
 }
-
-ghost use Prim.Native.Nat.{_<_};
-ghost use Rattle.frame.specs.Refusals.{framed, recorded};

@@ -13,7 +13,7 @@ use Rattle.frame.specs.Layout.{samplesAt}
 use Rattle.frame.specs.Paths.{headerAt, accepted}
 use Rattle.frame.specs.Views.{pathOf, nth, offsetIn}
 use Rattle.frame.proofs.InPlace.{offset-past, offset-is}
-use Rattle.frame.proofs.view.PathFrame.offset_in_place.Needs as need
+use Rattle.frame.proofs.view.PathFrame.offset.Needs as need
 
 -- a signed number is that of its bits
 bits-back : (w : ℕ) (q : ℤ) → w < 2 ^ 32 → q ≡ toZ w32 w → toZ w32 (ofZ w32 q) ≡ toZ w32 w
