@@ -1,8 +1,8 @@
 // The program at the bench: a path frame explained, its records rewritten, and scripts of calls replayed.
+mod cells;
 mod checking;
 mod explaining;
 mod files;
-mod path;
 mod planning;
 mod replaying;
 mod rewriting;

@@ -1,8 +1,8 @@
 // `furqyzet plan`: a frame's job made and advanced until its work ends, and the table it settles on.
 use super::Ended;
+use super::cells::Cells;
 use super::checking::print_refusal;
 use super::files::load;
-use super::path::Path;
 use frame::Header;
 use frame::PathFrame;
 use frame::read;
@@ -16,14 +16,9 @@ use grade::Speed;
 use grade::SpeedGrade;
 use grade::SpeedRaisable;
 use limit::Limit;
-use limit::Pair;
 use limit::PairLimit;
-use motion::Average;
 use motion::AverageLimit;
-use motion::Ramp;
 use motion::RampLimit;
-use motion::Step;
-use motion::Torque;
 use motion::TorqueLimit;
 use runs::Answer;
 use runs::Call;
@@ -31,13 +26,12 @@ use runs::Samples;
 use runs::Stage;
 use sequence::plan;
 use sequence::run;
-use slices::OffsetSlice;
-use slices::RowSlice;
-use slices::SliceOffsets;
-use slices::SliceRows;
-use slices::SliceSteps;
-use slices::StepSlice;
-use slices::are_sound;
+use sources::ClassStepsOf;
+use sources::OffsetsOf;
+use sources::RowsOf;
+use sources::SpeedStepsOf;
+use sources::class_limit;
+use sources::speed_limit;
 use std::error::AnyError;
 
 pub fn plan_file(rt: &LibcRuntime, file: &str) -> Result<Ended, AnyError> {
@@ -47,8 +41,9 @@ pub fn plan_file(rt: &LibcRuntime, file: &str) -> Result<Ended, AnyError> {
     let bytes = bytes.as_slice();
     match read(bytes) {
         Ok(header) => {
-            let path = Path::of(rt.alloc(), &PathFrame::over(bytes), header)?;
-            plan_path(rt, header, path)
+            let frame = PathFrame::over(bytes);
+            let cells = Cells::of(rt.alloc(), &frame)?;
+            plan_path(rt, header, frame, cells)
         }
         Err(fault) => {
             print_refusal(rt, fault.refusal())?;
@@ -57,60 +52,25 @@ pub fn plan_file(rt: &LibcRuntime, file: &str) -> Result<Ended, AnyError> {
     }
 }
 
-fn plan_path(rt: &LibcRuntime, header: Header, path: Path) -> Result<Ended, AnyError> {
-    let Path {
+// Plans under the frame's own limits, read in place from its bytes.
+fn plan_path(
+    rt: &LibcRuntime,
+    header: Header,
+    frame: PathFrame<'_>,
+    cells: Cells,
+) -> Result<Ended, AnyError> {
+    let Cells {
         mut classes,
         mut speeds,
-        class_steps,
-        speed_steps,
-        offsets,
-        rows,
-    } = path;
-    let rows = rows.as_slice();
-    if !are_sound(header.spacing, rows) {
-        return Err("rows that are not sound".into());
-    }
-    let rows = RowSlice {
-        h: header.spacing,
-        rows,
-    };
-    let answer = planned(
+    } = cells;
+    let answer = worked(
         header,
         classes.as_mut_slice(),
         speeds.as_mut_slice(),
-        class_steps.as_slice(),
-        speed_steps.as_slice(),
-        offsets.as_slice(),
-        rows,
+        &class_limit(frame),
+        &speed_limit(frame),
     )?;
     print_answer(rt, answer, classes.as_slice(), speeds.as_slice())
-}
-
-// The answer of the advance that ends the work, under the path's own limits.
-fn planned<'a>(
-    header: Header,
-    classes: &mut [Cell<Class>],
-    speeds: &mut [Cell<Speed>],
-    class_steps: &'a [Step],
-    speed_steps: &'a [Step],
-    offsets: &'a [i32],
-    rows: RowSlice<'a>,
-) -> Result<Answer, AnyError> {
-    let class_limit = Ramp {
-        steps: StepSlice { steps: class_steps },
-    };
-    let speed_limit = Pair {
-        first: Ramp {
-            steps: StepSlice { steps: speed_steps },
-        },
-        second: Pair {
-            first: Average {
-                offsets: OffsetSlice { offsets },
-            },
-            second: Torque { rows },
-        },
-    };
-    worked(header, classes, speeds, &class_limit, &speed_limit)
 }
 
 // Makes the job and advances it by as many evaluations as it can need.
