@@ -3,7 +3,6 @@ use Prim.Native.Nat.{ℕ, _≤_}
 use mathlib.Core.Path.{_≡_, sym, ap, _∙_, subst}
 use mathlib.Core.List.{List, _++_}
 use lib.ListN.{length, take, drop}
-use Rattle.std.specs.declared.result.Result.the-variants.{Ok}
 use Rattle.std.proofs.shelf.Lists.{length-take-le}
 use Rattle.runs.specs.declared.stage.Make.the-variants.{Classes, Speeds}
 use Rattle.runs.specs.declared.stage.Stage.the-variants.{Settled}
@@ -15,7 +14,7 @@ use Rattle.job.proofs.Lawful.{led-lawful}
 use Rattle.setpoint.specs.declared.released.Released.{Released}
 use Rattle.setpoint.specs.Frames.{setpointBytes, frameSize}
 use Rattle.setpoint.specs.Release.{Releases, pairOf}
-use Rattle.setpoint.specs.Sending.{asked, ownPair, Sent}
+use Rattle.setpoint.specs.Sending.{ownPair, Spends}
 use Rattle.setpoint.specs.Writing.{sizeOf, frameOf}
 
 module _ (h : Held) (r : Released) (classes-are : r .classes .now ≡ take (count h) (h .classes)) (speeds-are : r .speeds .now ≡ take (count h) (h .speeds)) where
@@ -31,12 +30,11 @@ module _ (h : Held) (r : Released) (classes-are : r .classes .now ≡ take (coun
   }
 
 -- what is released and written is the job's own frame
-pub sent : (h : Held) (r : Released) (out out′ : List ℕ) (size : ℕ) → asked h out ≡ Ok tt → count h ≤ length (h .classes) → Releases h r → size ≡ sizeOf r
-    → out′ ≡ frameOf r ++ drop (sizeOf r) out → Sent h out out′ size
-sent h r out out′ size yes-to room released size-is memory-is =
+pub spends : (h : Held) (r : Released) (out out′ : List ℕ) (size : ℕ) → count h ≤ length (h .classes) → Releases h r → size ≡ sizeOf r
+    → out′ ≡ frameOf r ++ drop (sizeOf r) out → Spends h out out′ size
+spends h r out out′ size room released size-is memory-is =
     let n : length (r .classes .now) ≡ count h = ap length (released .classes) ∙ length-take-le (count h) (h .classes) room in
     record {
-      granted = yes-to;
       size-is = size-is ∙ ap frameSize n;
       memory = memory-is
           ∙ ap (λ (P : Pair). setpointBytes (P Classes) (P Speeds) ++ drop (sizeOf r) out) (released .pair)

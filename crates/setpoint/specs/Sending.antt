@@ -38,15 +38,19 @@ abbrev pub ownPair : Held → Pair
 ownPair h = own (wholeOf h .sheets)
 
 -- the job of h is spent for its frame, which stands in front of the memory
-pub record Sent (h : Held) (out out′ : List ℕ) (size : ℕ) : Type 0 where
-  pub granted : asked h out ≡ Ok tt
+pub record Spends (h : Held) (out out′ : List ℕ) (size : ℕ) : Type 0 where
   pub size-is : size ≡ frameSize (count h)
   pub memory : out′ ≡ setpointBytes (ownPair h Classes) (ownPair h Speeds) ++ drop (frameSize (count h)) out
   -- whatever lawful limits, start and calls led to the job, the pair sent is the greatest that keeps everything in force
   pub law : (a b : Number) → LimitLaw classTop a → LimitLaw speedTop b → (s : Start) (cs : List Call) → Led a b s cs h
       → Greatest (settingOf a b h) (inForce (settingOf a b h) s cs) (ownPair h)
 
--- the very job comes back, and the memory is as it was
+-- after a yes
+pub record Sent (h : Held) (out out′ : List ℕ) (size : ℕ) : Type 0 where
+  pub granted : asked h out ≡ Ok tt
+  pub spent : Spends h out out′ size
+
+-- after a no the very job comes back, and the memory is as it was
 pub record Unsent (h : Held) (out out′ : List ℕ) (u : Unreleased) : Type 0 where
   pub refused : asked h out ≡ Err (u .fault)
   pub job : u .job ≡ h .job
