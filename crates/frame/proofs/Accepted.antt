@@ -15,7 +15,7 @@ use Rattle.std.specs.declared.result.Result.the-variants.{Ok, Err}
 use Rattle.std.specs.Results.{isOk}
 use Rattle.words.specs.Words.{be32At}
 use Rattle.record.specs.declared.fault.RecordFault.{RecordFault}
-use Rattle.record.proofs.Questions.{passed, passed-within}
+use Rattle.clause.proofs.Questions.{passed, passed-within}
 use Rattle.frame.specs.declared.header.Header.{Header}
 use Rattle.frame.specs.declared.fault.FrameFault.{FrameFault}
 use Rattle.frame.specs.declared.fault.FrameFault.the-variants as frame

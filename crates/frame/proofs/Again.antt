@@ -23,7 +23,7 @@ use Rattle.record.specs.declared.row.TorqueRow.{TorqueRow}
 use Rattle.record.specs.Samples.{wordsOfSample, sampleBytes}
 use Rattle.record.specs.Gaps.{wordsOfGap, gapBytes}
 use Rattle.record.specs.Rows.{wordsOfRow, rowBytes}
-use Rattle.record.proofs.Questions.{passed, passed-within}
+use Rattle.clause.proofs.Questions.{passed, passed-within}
 use Rattle.record.proofs.RecordTrips.{field8, field16, field32}
 use Rattle.frame.specs.declared.header.Header.{Header}
 use Rattle.frame.specs.declared.fault.FrameFault.the-variants as frame

@@ -7,8 +7,8 @@ use lib.ListN.{length, getD}
 use Rattle.std.specs.declared.result.Result.{Result}
 use Rattle.std.specs.declared.result.Result.the-variants.{Ok, Err}
 use Rattle.record.specs.declared.fault.RecordFault.{RecordFault}
-use Rattle.record.specs.Asking.{within}
-use Rattle.record.proofs.Questions.{passed-within}
+use Rattle.clause.specs.Asking.{within}
+use Rattle.clause.proofs.Questions.{passed-within}
 use Rattle.frame.specs.Records.{fault, recordsRead, done}
 
 same-done : {T F : Type 0} (x : T) (r : Result (List T) (RecordFault F)) → done (within (λ f. f) r (λ xs. Ok (x ∷ xs))) ≡ done r

@@ -6,8 +6,8 @@ use Prim.Native.Nat.{ℕ, _-_}
 use native.Mathlib.Omega.{arith}
 use Rattle.std.specs.declared.result.Result.{Result}
 use Rattle.std.specs.declared.result.Result.the-variants.{Ok, Err}
-use Rattle.record.specs.Asking.{within}
-use Rattle.record.proofs.Questions.{passed-within}
+use Rattle.clause.specs.Asking.{within}
+use Rattle.clause.proofs.Questions.{passed-within}
 use Rattle.frame.specs.declared.header.Header.{Header}
 use Rattle.frame.specs.declared.fault.FrameFault.{FrameFault}
 use Rattle.frame.specs.declared.fault.FrameFault.the-variants as frame

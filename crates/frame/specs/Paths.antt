@@ -15,7 +15,7 @@ use Rattle.record.specs.declared.gap.GapFault.{GapFault}
 use Rattle.record.specs.declared.row.TorqueRow.{TorqueRow}
 use Rattle.record.specs.declared.row.RowFault.{RowFault}
 use Rattle.record.specs.declared.row.RowPlace.{RowPlace}
-use Rattle.record.specs.Asking.{ask, within}
+use Rattle.clause.specs.Asking.{ask, within}
 use Rattle.record.specs.Samples.{sampleWordsAt, sampleRead}
 use Rattle.record.specs.Gaps.{gapWordsAt, gapRead}
 use Rattle.record.specs.Rows.{rowWordsAt, rowRead}

@@ -8,7 +8,7 @@ use Rattle.std.specs.declared.option.Option.the-variants.{Some, None}
 use Rattle.std.specs.declared.result.Result.{Result}
 use Rattle.std.specs.declared.result.Result.the-variants.{Ok, Err}
 use Rattle.record.specs.declared.fault.RecordFault.{RecordFault}
-use Rattle.record.specs.Asking.{within}
+use Rattle.clause.specs.Asking.{within}
 
 -- the fault of the i-th record, which begins at its place
 abbrev pub fault : {F : Type 0} → (ℕ → ℕ) → ℕ → F → RecordFault F

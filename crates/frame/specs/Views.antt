@@ -8,7 +8,7 @@ use Rattle.std.specs.declared.option.Option.the-variants.{Some, None}
 use Rattle.std.specs.declared.result.Result.{Result}
 use Rattle.std.specs.declared.result.Result.the-variants.{Ok, Err}
 use Rattle.record.specs.declared.sample.Sample.{Sample}
-use Rattle.record.specs.Clauses.{ClauseCap}
+use Rattle.clause.specs.Clauses.{ClauseCap}
 use Rattle.frame.specs.declared.fault.FrameFault.{FrameFault}
 use Rattle.frame.specs.Paths.{Path, headerAt, pathRead}
 

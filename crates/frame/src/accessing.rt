@@ -5,20 +5,14 @@ ghost use lib.ListN.{length};
 ghost use Rattle.frame.specs.Paths.{accepted, headerAt};
 ghost use Rattle.frame.specs.Views.{pathOf, nth, CapShown};
 use super::body::Body;
-use super::gaps::GapRecords;
 use super::header::Header;
 use super::reading::header_at;
 use super::records::Records;
 use super::records::record_at;
-use super::rows::RowRecords;
 use super::samples::SampleRecords;
 use super::view::PathFrame;
-use record::Gap;
-use record::GapFault;
-use record::RowFault;
 use record::Sample;
 use record::SampleFault;
-use record::TorqueRow;
 use words::see_bytes;
 
 impl<'a> PathFrame<'a> {
@@ -52,20 +46,6 @@ impl<'a> PathFrame<'a> {
         ensures { λ r. ⌜ r ≡ nth (pathOf (now (now (self .entry) .bytes)) .samples) index ⌝ }
     {
         record_at::<Sample, SampleFault, SampleRecords>(&self.body(), index)
-    }
-
-    /// A gap by its number, or nothing past the last.
-    pub fn gap(&self, index: usize) -> Option<Gap>
-        ensures { λ r. ⌜ r ≡ nth (pathOf (now (now (self .entry) .bytes)) .gaps) index ⌝ }
-    {
-        record_at::<Gap, GapFault, GapRecords>(&self.body(), index)
-    }
-
-    /// A torque row by its number, or nothing past the last.
-    pub fn row(&self, index: usize) -> Option<TorqueRow>
-        ensures { λ r. ⌜ r ≡ nth (pathOf (now (now (self .entry) .bytes)) .rows) index ⌝ }
-    {
-        record_at::<TorqueRow, RowFault, RowRecords>(&self.body(), index)
     }
 
     /// The cap on a sample's squared speed that its clause gives, or nothing past the last sample.

@@ -2,19 +2,11 @@
 ghost use mathlib.Core.Path.{_≡_};
 ghost use Rattle.frame.specs.declared.fault.FrameFault.the-variants.{Sample, Gap, Row};
 use record::GapFault;
-use record::GapFaultDebug;
-use record::GapFaultPartialEq;
 use record::RecordFault;
-use record::RecordFaultDebug;
-use record::RecordFaultPartialEq;
 use record::RowFault;
-use record::RowFaultDebug;
-use record::RowFaultPartialEq;
 use record::SampleFault;
-use record::SampleFaultDebug;
-use record::SampleFaultPartialEq;
 
-#[derive(Clone, Copy, PartialEq, Eq, Debug)]
+#[derive(Clone, Copy)]
 pub enum FrameFault {
     // Fewer than five bytes.
     TooShort,

@@ -13,7 +13,7 @@ use words::be32;
 
 impl PathFrame<'_> {
     /// A gap by its number, or nothing past the last.
-    pub fn gap_in_place(&self, index: usize) -> Option<Gap>
+    pub fn gap(&self, index: usize) -> Option<Gap>
         ensures { λ r. ⌜ r ≡ nth (pathOf (now (now (self .entry) .bytes)) .gaps) index ⌝ }
     {
         let body = self.body();
@@ -24,7 +24,7 @@ impl PathFrame<'_> {
     }
 
     /// A torque row by its number, or nothing past the last.
-    pub fn row_in_place(&self, index: usize) -> Option<TorqueRow>
+    pub fn row(&self, index: usize) -> Option<TorqueRow>
         ensures { λ r. ⌜ r ≡ nth (pathOf (now (now (self .entry) .bytes)) .rows) index ⌝ }
     {
         let body = self.body();
@@ -35,7 +35,7 @@ impl PathFrame<'_> {
     }
 
     /// The offset q of a sample's average, or nothing past the last sample.
-    pub fn offset_in_place(&self, index: usize) -> Option<i32>
+    pub fn offset(&self, index: usize) -> Option<i32>
         ensures { λ r. ⌜ r ≡ offsetIn (nth (pathOf (now (now (self .entry) .bytes)) .samples) index) ⌝ }
     {
         let body = self.body();

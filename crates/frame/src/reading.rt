@@ -5,6 +5,7 @@ ghost use lib.ListN.{length};
 ghost use Rattle.std.specs.Vec.{made};
 ghost use Rattle.frame.specs.Layout.{frameSize};
 ghost use Rattle.frame.specs.Paths.{headerAt, fieldsRead, headerRead, bodyRead, headerOf, pathRead};
+ghost use Rattle.frame.specs.Records.{done};
 use super::body::Body;
 use super::fault::FrameFault;
 use super::fault::FrameFromGap;
@@ -27,7 +28,7 @@ use words::be16;
 use words::be32;
 
 // The header's fields as they lie.
-pub fn header_at(bytes: &[u8]) -> Header
+pub(crate) fn header_at(bytes: &[u8]) -> Header
     requires { ⌜ 15 ≤ length (now bytes) ⌝ }
     ensures { λ r. ⌜ r ≡ headerAt (now (bytes .entry)) ⌝ }
 {
@@ -101,5 +102,3 @@ pub fn read(bytes: &[u8]) -> Result<Header, FrameFault>
     ask_records(Body { bytes, header })?;
     Ok(header)
 }
-
-ghost use Rattle.frame.specs.Records.{done};

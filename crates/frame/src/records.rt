@@ -46,7 +46,9 @@ pub trait Records<T, F> {
 }
 
 // Asks the records in order: the first that says no.
-pub fn check_records<T: Copy, F: Copy, R: Records<T, F>>(records: &R) -> Result<(), RecordFault<F>>
+pub(crate) fn check_records<T: Copy, F: Copy, R: Records<T, F>>(
+    records: &R,
+) -> Result<(), RecordFault<F>>
     ensures { λ r. ⌜ r ≡ done (recordsRead (λ i. R·Records .start (now (records .entry)) + R·Records .size * i) (R·Records .answer (now (records .entry))) (R·Records .count (now (records .entry))) 0) ⌝ }
 {
     for index in 0..records.count() {
@@ -63,7 +65,7 @@ pub fn check_records<T: Copy, F: Copy, R: Records<T, F>>(records: &R) -> Result<
 }
 
 // The record of a number, or nothing past the last; where records were refused, nothing either.
-pub fn record_at<T: Copy, F: Copy, R: Records<T, F>>(records: &R, index: usize) -> Option<T>
+pub(crate) fn record_at<T: Copy, F: Copy, R: Records<T, F>>(records: &R, index: usize) -> Option<T>
     ensures { λ r. ⌜ r ≡ recordAt (R·Records .answer (now (records .entry))) (R·Records .count (now (records .entry))) index ⌝ }
 {
     if index >= records.count() {
@@ -76,7 +78,7 @@ pub fn record_at<T: Copy, F: Copy, R: Records<T, F>>(records: &R, index: usize) 
 }
 
 // Writes all the records where they lie: what stood there in the frame stands there again.
-pub fn put_records<T: Copy, F: Copy, R: Records<T, F>>(records: &R, out: &mut [u8])
+pub(crate) fn put_records<T: Copy, F: Copy, R: Records<T, F>>(records: &R, out: &mut [u8])
     requires bytes { ⌜ Bytes (R·Records .source (now records)) ⌝ }
     requires accepted { ⌜ ((i : ℕ) → i < R·Records .count (now records) → isOk (R·Records .answer (now records) i) ≡ true) ⌝ }
     requires source { ⌜ R·Records .start (now records) + R·Records .size * R·Records .count (now records) ≤ length (R·Records .source (now records)) ⌝ }

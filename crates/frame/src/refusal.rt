@@ -1,12 +1,14 @@
 // A refusal in numbers: which layer, which question, and where.
 ghost use mathlib.Core.Path.{_≡_};
 ghost use Rattle.frame.specs.Refusals.{refusalOf};
+ghost use Prim.Native.Nat.{_<_};
+ghost use Rattle.frame.specs.Refusals.{framed, recorded};
 use super::fault::FrameFault;
 use super::layout;
 use record::Asked;
 
 /// What a question is about.
-#[derive(Clone, Copy, PartialEq, Eq, Debug)]
+#[derive(Clone, Copy)]
 pub enum Layer {
     Frame,
     Sample,
@@ -69,6 +71,3 @@ impl FrameFault {
         }
     }
 }
-
-ghost use Prim.Native.Nat.{_<_};
-ghost use Rattle.frame.specs.Refusals.{framed, recorded};

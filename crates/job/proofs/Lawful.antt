@@ -8,11 +8,15 @@ use mathlib.Core.Logic.{⊎-elim}
 use lib.Dec.{lit≤}
 use lib.ListN.{length}
 use Rattle.std.proofs.shelf.Tests.{cases-eq}
+use Rattle.grade.specs.declared.cell.Cell.{Cell}
+use Rattle.grade.specs.declared.class.Class.{Class}
+use Rattle.grade.specs.declared.speed.Speed.{Speed}
 use Rattle.grade.specs.Tops.{classTop, speedTop}
 use Rattle.limit.specs.Numbers.{Number, LimitLaw}
 use Rattle.runs.specs.declared.call.Answer.{Answer}
 use Rattle.runs.specs.declared.call.Answer.the-variants.{Refused}
 use Rattle.runs.specs.declared.call.Call.{Call}
+use Rattle.runs.specs.declared.call.Fault.{Fault}
 use Rattle.runs.specs.declared.stage.Make.{Make}
 use Rattle.runs.specs.declared.stage.Make.the-variants.{Classes, Speeds}
 use Rattle.runs.specs.Settings.{Setting, SettingLaw}
@@ -22,10 +26,12 @@ use Rattle.runs.specs.Runs.{after}
 use Rattle.runs.specs.Law.{RunLaw}
 use Rattle.runs.proofs.Runs.{run-more}
 use Rattle.runs.proofs.Law.{runs-lawful}
+use Rattle.job.specs.declared.job.Job.{Job}
 use Rattle.job.specs.Table.{entry}
 use Rattle.job.specs.Whole.{topOf, limitOf, setting}
-use Rattle.job.specs.Holding.{Held, count, wholeOf, settingOf, roomFor, room, judged, Led}
-use Rattle.job.specs.Calling.{outcome, reply, Does, Lawful}
+use Rattle.job.specs.Holding.{Held, held, count, wholeOf, settingOf, roomFor, room, judged, Led}
+use Rattle.job.specs.Calling.{asked, outcome, reply, Does, Lawful, Promises}
+use Rattle.job.proofs.Acting.{refuses}
 use Rattle.job.proofs.Rooms.{room-yes, room-both}
 
 -- the table never falls
@@ -108,3 +114,13 @@ module _ (a b : Number) where
   lawful-call a-law b-law call h h′ x does = lawful-from a-law b-law (call ∷ []) h h′ (does .holds .samples)
       (λ s earlier led. leads-on s earlier (call ∷ []) h h′ led (does .holds .samples) (does .holds .long-classes) (does .holds .long-speeds)
       (does .holds .job ∙ in-room call h (led .room) ∙ ap (called (settingOf a b h) call) (led .job) ∙ sym (run-more (settingOf a b h) earlier call (made (settingOf a b h) s))))
+
+-- what a call promises that is handed no limit, by what it does
+pub promised : (call : Call) (h h′ : Held) (x : Answer) → ((a b : Number) → Does a b call h h′ x) → Promises call h h′ x
+promised call h h′ x does = record { does = does; law = λ a b a-law b-law. lawful-call a b a-law b-law call h h′ x (does a b) }
+
+-- and where it is refused
+pub promised-refused : (call : Call) (j : Job) (cs : List (Cell Class)) (ss : List (Cell Speed)) (x : Answer) (f : Fault) → x ≡ Refused f
+    → ((a b : Number) → refused f ≡ asked a b call (held j cs ss)) → Promises call (held j cs ss) (held j cs ss) x
+promised-refused call j cs ss x f e no-is =
+    promised call (held j cs ss) (held j cs ss) x (λ a b. subst (Does a b call (held j cs ss) (held j cs ss)) (sym e) (refuses a b call j cs ss f (no-is a b)))

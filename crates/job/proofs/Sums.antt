@@ -33,6 +33,10 @@ pub front-sum : {G : Type 0} (rank : G → ℕ) (cells : List (Cell G)) (k n r :
     → r ≡ sum (values (rankedAll rank (take n cells)))
 front-sum rank cells k n r k-is e = e ∙ ap (λ m. sumBy (λ c. rank (c .value)) (take m cells)) k-is ∙ sym (sum-values rank (take n cells))
 
+-- the product as the code makes it
+pub product-is : (n a b c s spare : ℕ) → a ≡ c → b ≡ s → spare ≡ 3 → n * (a + b + spare) ≡ n * (c + s + 3)
+product-is n a b c s spare a-is b-is spare-is = ap (λ x. n * (x + b + spare)) a-is ∙ ap (λ x. n * (c + x + spare)) b-is ∙ ap (λ x. n * (c + s + x)) spare-is
+
 pub suffices : (h : Held) (k : ℕ) → room h ≡ granted → k ≡ count h * (sum (own (wholeOf h .sheets) Classes) + sum (own (wholeOf h .sheets) Speeds) + 3) → Suffices h k
 suffices h k roomy is = record {
   roomy = roomy;

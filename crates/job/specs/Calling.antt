@@ -5,7 +5,8 @@ use mathlib.Core.List.{List, [], _∷_, _++_}
 use lib.ListN.{length, take, drop}
 use Rattle.std.specs.declared.result.Result.{Result}
 use Rattle.std.specs.declared.result.Result.the-variants.{Ok, Err}
-use Rattle.limit.specs.Numbers.{Number}
+use Rattle.grade.specs.Tops.{classTop, speedTop}
+use Rattle.limit.specs.Numbers.{Number, LimitLaw}
 use Rattle.runs.specs.declared.call.Answer.{Answer}
 use Rattle.runs.specs.declared.call.Answer.the-variants.{Refused, Advanced, Done, Seen}
 use Rattle.runs.specs.declared.call.Call.{Call}
@@ -59,7 +60,12 @@ pub record Lawful (a b : Number) (calls : List Call) (h h′ : Held) : Type 0 wh
   pub leads : (s : Start) (earlier : List Call) → Led a b s earlier h → Led a b s (earlier ++ calls) h′
   pub law : (s : Start) (earlier : List Call) → Led a b s earlier h → RunLaw (settingOf a b h) s (earlier ++ calls) (wholeOf h′)
 
--- what a method returns, as an answer
+-- what a call promises that is handed no limit: what it does, under any two, and the law under any two that are lawful
+pub record Promises (call : Call) (h h′ : Held) (x : Answer) : Type 0 where
+  pub does : (a b : Number) → Does a b call h h′ x
+  pub law : (a b : Number) → LimitLaw classTop a → LimitLaw speedTop b → Lawful a b (call ∷ []) h h′
+
+-- what an advance, a change and a look return, as answers
 abbrev pub told : Result Progress Fault → Answer
 told (Ok p) = Advanced (p .stage) (p .evaluations) (p .lowerings)
 told (Err f) = Refused f

@@ -2,14 +2,11 @@
 //
 // Each call asks its questions first, the memory's before its own; refused, it leaves the very job and the very cells.
 ghost use mathlib.Core.Path.{_≡_};
-ghost use mathlib.Core.List.{[], _∷_};
 ghost use denote.Ref.{name};
-ghost use Rattle.grade.specs.Tops.{classTop, speedTop};
-ghost use Rattle.limit.specs.Numbers.{Number, LimitLaw};
 ghost use Rattle.runs.specs.declared.stage.Make.the-variants.{Classes, Speeds};
 ghost use Rattle.runs.specs.declared.call.Call.the-variants.{Cut, Lift, Look};
 ghost use Rattle.job.specs.Holding.{over};
-ghost use Rattle.job.specs.Calling.{Does, Lawful, done, seen};
+ghost use Rattle.job.specs.Calling.{Promises, done, seen};
 use super::job::Job;
 use super::looking::Sight;
 use grade::Class;
@@ -34,8 +31,7 @@ impl Job {
         value: u64,
     ) -> Result<(), Fault>
         ensures lent { λ _. ⌜ name (now (classes .exit) .cells) ≡ name (now (classes .entry) .cells) ⌝ }
-        ensures does { λ r. ⌜ ((a b : Number) → Does a b (Cut Classes sample value) (over (now (self .entry)) (now (classes .entry)) (now (speeds .entry))) (over (now (self .exit)) (now (classes .exit)) (now (speeds .entry))) (done r)) ⌝ }
-        ensures law { λ _. ⌜ ((a b : Number) → LimitLaw classTop a → LimitLaw speedTop b → Lawful a b (Cut Classes sample value ∷ []) (over (now (self .entry)) (now (classes .entry)) (now (speeds .entry))) (over (now (self .exit)) (now (classes .exit)) (now (speeds .entry)))) ⌝ }
+        ensures promises { λ r. ⌜ Promises (Cut Classes sample value) (over (now (self .entry)) (now (classes .entry)) (now (speeds .entry))) (over (now (self .exit)) (now (classes .exit)) (now (speeds .entry))) (done r) ⌝ }
     {
         let call = Call::Cut(Make::Classes, sample, value);
         self.ask(classes.cells.len(), speeds.cells.len(), call)?;
@@ -54,8 +50,7 @@ impl Job {
         value: u64,
     ) -> Result<(), Fault>
         ensures lent { λ _. ⌜ name (now (speeds .exit) .cells) ≡ name (now (speeds .entry) .cells) ⌝ }
-        ensures does { λ r. ⌜ ((a b : Number) → Does a b (Cut Speeds sample value) (over (now (self .entry)) (now (classes .entry)) (now (speeds .entry))) (over (now (self .exit)) (now (classes .entry)) (now (speeds .exit))) (done r)) ⌝ }
-        ensures law { λ _. ⌜ ((a b : Number) → LimitLaw classTop a → LimitLaw speedTop b → Lawful a b (Cut Speeds sample value ∷ []) (over (now (self .entry)) (now (classes .entry)) (now (speeds .entry))) (over (now (self .exit)) (now (classes .entry)) (now (speeds .exit)))) ⌝ }
+        ensures promises { λ r. ⌜ Promises (Cut Speeds sample value) (over (now (self .entry)) (now (classes .entry)) (now (speeds .entry))) (over (now (self .exit)) (now (classes .entry)) (now (speeds .exit))) (done r) ⌝ }
     {
         let call = Call::Cut(Make::Speeds, sample, value);
         self.ask(classes.cells.len(), speeds.cells.len(), call)?;
@@ -74,8 +69,7 @@ impl Job {
         value: u64,
     ) -> Result<(), Fault>
         ensures lent { λ _. ⌜ name (now (classes .exit) .cells) ≡ name (now (classes .entry) .cells) ⌝ }
-        ensures does { λ r. ⌜ ((a b : Number) → Does a b (Lift Classes sample value) (over (now (self .entry)) (now (classes .entry)) (now (speeds .entry))) (over (now (self .exit)) (now (classes .exit)) (now (speeds .entry))) (done r)) ⌝ }
-        ensures law { λ _. ⌜ ((a b : Number) → LimitLaw classTop a → LimitLaw speedTop b → Lawful a b (Lift Classes sample value ∷ []) (over (now (self .entry)) (now (classes .entry)) (now (speeds .entry))) (over (now (self .exit)) (now (classes .exit)) (now (speeds .entry)))) ⌝ }
+        ensures promises { λ r. ⌜ Promises (Lift Classes sample value) (over (now (self .entry)) (now (classes .entry)) (now (speeds .entry))) (over (now (self .exit)) (now (classes .exit)) (now (speeds .entry))) (done r) ⌝ }
     {
         let call = Call::Lift(Make::Classes, sample, value);
         self.ask(classes.cells.len(), speeds.cells.len(), call)?;
@@ -94,8 +88,7 @@ impl Job {
         value: u64,
     ) -> Result<(), Fault>
         ensures lent { λ _. ⌜ name (now (speeds .exit) .cells) ≡ name (now (speeds .entry) .cells) ⌝ }
-        ensures does { λ r. ⌜ ((a b : Number) → Does a b (Lift Speeds sample value) (over (now (self .entry)) (now (classes .entry)) (now (speeds .entry))) (over (now (self .exit)) (now (classes .entry)) (now (speeds .exit))) (done r)) ⌝ }
-        ensures law { λ _. ⌜ ((a b : Number) → LimitLaw classTop a → LimitLaw speedTop b → Lawful a b (Lift Speeds sample value ∷ []) (over (now (self .entry)) (now (classes .entry)) (now (speeds .entry))) (over (now (self .exit)) (now (classes .entry)) (now (speeds .exit)))) ⌝ }
+        ensures promises { λ r. ⌜ Promises (Lift Speeds sample value) (over (now (self .entry)) (now (classes .entry)) (now (speeds .entry))) (over (now (self .exit)) (now (classes .entry)) (now (speeds .exit))) (done r) ⌝ }
     {
         let call = Call::Lift(Make::Speeds, sample, value);
         self.ask(classes.cells.len(), speeds.cells.len(), call)?;
@@ -112,8 +105,7 @@ impl Job {
         speeds: &Sheet<'_, Speed>,
         sample: u64,
     ) -> Result<Sight, Fault>
-        ensures does { λ r. ⌜ ((a b : Number) → Does a b (Look sample) (over (now (self .entry)) (now (classes .entry)) (now (speeds .entry))) (over (now (self .entry)) (now (classes .entry)) (now (speeds .entry))) (seen r)) ⌝ }
-        ensures law { λ _. ⌜ ((a b : Number) → LimitLaw classTop a → LimitLaw speedTop b → Lawful a b (Look sample ∷ []) (over (now (self .entry)) (now (classes .entry)) (now (speeds .entry))) (over (now (self .entry)) (now (classes .entry)) (now (speeds .entry)))) ⌝ }
+        ensures { λ r. ⌜ Promises (Look sample) (over (now (self .entry)) (now (classes .entry)) (now (speeds .entry))) (over (now (self .entry)) (now (classes .entry)) (now (speeds .entry))) (seen r) ⌝ }
     {
         let call = Call::Look(sample);
         self.ask(classes.cells.len(), speeds.cells.len(), call)?;

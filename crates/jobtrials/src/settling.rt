@@ -6,6 +6,7 @@ use super::path::planned;
 use grade::Cell;
 use grade::Class;
 use grade::ClassGrade;
+use grade::SpeedGrade;
 use runs::Answer;
 use runs::AnswerDebug;
 use runs::AnswerPartialEq;

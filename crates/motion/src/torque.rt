@@ -1,4 +1,5 @@
-// What rows of torque allow. Rows lie by gap, so that a sample asks only those of the gaps beside it.
+// What rows of torque allow. Rows lie by gap, so that a sample asks only those of the gaps beside it, which a search by
+// halves finds.
 ghost use mathlib.Core.Path.{_≡_};
 ghost use Prim.Native.Nat.{ℕ, _+_, _≤_, _<_};
 ghost use lib.ListN.{length};

@@ -14,7 +14,7 @@ use Rattle.grade.specs.Tops.{speedTop}
 use Rattle.record.specs.declared.sample.Sample.{Sample}
 use Rattle.record.specs.declared.sample.SampleWords.{SampleWords}
 use Rattle.record.specs.Samples.{sampleWordsAt}
-use Rattle.record.proofs.Questions.{passed, passed-within}
+use Rattle.clause.proofs.Questions.{passed, passed-within}
 use Rattle.record.proofs.RecordTrips.{SampleAsked}
 use Rattle.frame.specs.declared.header.Header.{Header}
 use Rattle.frame.specs.declared.fault.FrameFault.{FrameFault}

@@ -9,13 +9,13 @@ use Rattle.std.specs.declared.result.Result.{Result}
 use Rattle.std.specs.declared.result.Result.the-variants.{Ok, Err}
 use Rattle.caps.specs.Caps.{SpeedCap, BendCap}
 use Rattle.caps.specs.Floats.{bitsOf, finiteBits, significand, shift}
-use Rattle.record.specs.declared.clause.CapClause.{CapClause}
-use Rattle.record.specs.declared.clause.CapClause.the-variants.{Free, Straight, Bend, Fixed}
-use Rattle.record.specs.declared.clause.ClauseWords.{ClauseWords}
-use Rattle.record.specs.declared.clause.ClauseFault.{ClauseFault}
-use Rattle.record.specs.declared.clause.ClauseFault.the-variants.{TopSpeedNotFinite, TopSpeedNegative, CurvatureNotFinite, FixedTooGreat, FirstNotZero, SecondNotZero}
-use Rattle.record.specs.Clauses.{ClauseCap, clauseRead, speedRead}
-use Rattle.record.proofs.Questions.{passed, passed-within, chosen}
+use Rattle.clause.specs.declared.clause.CapClause.{CapClause}
+use Rattle.clause.specs.declared.clause.CapClause.the-variants.{Free, Straight, Bend, Fixed}
+use Rattle.clause.specs.declared.clause.ClauseWords.{ClauseWords}
+use Rattle.clause.specs.declared.clause.ClauseFault.{ClauseFault}
+use Rattle.clause.specs.declared.clause.ClauseFault.the-variants.{TopSpeedNotFinite, TopSpeedNegative, CurvatureNotFinite, FixedTooGreat, FirstNotZero, SecondNotZero}
+use Rattle.clause.specs.Clauses.{ClauseCap, clauseRead, speedRead}
+use Rattle.clause.proofs.Questions.{passed, passed-within, chosen}
 use Rattle.grade.specs.Tops.{speedTop}
 use Rattle.planner.specs.Starts.{greatest, straightCap, bendCap, clauseCap}
 

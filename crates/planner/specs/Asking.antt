@@ -4,7 +4,7 @@ use mathlib.Core.List.{List}
 use lib.Dec.{leb}
 use Rattle.std.specs.declared.result.Result.{Result}
 use Rattle.std.specs.declared.result.Result.the-variants.{Ok, Err}
-use Rattle.record.specs.Asking.{ask, within}
+use Rattle.clause.specs.Asking.{ask, within}
 use Rattle.frame.specs.declared.header.Header.{Header}
 use Rattle.frame.specs.declared.refusal.Layer.the-variants as layer
 use Rattle.frame.specs.declared.refusal.Refusal.{Refusal}

@@ -11,8 +11,8 @@ use Rattle.grade.specs.Profiles.{Profile}
 use Rattle.grade.specs.Tops.{classTop, speedTop}
 use Rattle.caps.specs.Floats.{bitsOf, significand, shift}
 use Rattle.record.specs.declared.sample.Sample.{Sample}
-use Rattle.record.specs.declared.clause.CapClause.{CapClause}
-use Rattle.record.specs.declared.clause.CapClause.the-variants.{Free, Straight, Bend, Fixed}
+use Rattle.clause.specs.declared.clause.CapClause.{CapClause}
+use Rattle.clause.specs.declared.clause.CapClause.the-variants.{Free, Straight, Bend, Fixed}
 use Rattle.frame.specs.Paths.{Path}
 use Rattle.runs.specs.declared.stage.Make.{Make}
 use Rattle.runs.specs.declared.stage.Make.the-variants.{Classes, Speeds}

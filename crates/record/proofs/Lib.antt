@@ -1,5 +1,2 @@
-pub mod Patterns
 pub mod Widths
-pub mod Questions
-pub mod ClauseTrips
 pub mod RecordTrips

@@ -16,7 +16,7 @@ use Rattle.std.specs.declared.result.Result.{Result}
 use Rattle.std.specs.declared.result.Result.the-variants.{Ok, Err}
 use Rattle.words.specs.Words.{be16At, be32At, be16, be32, Bytes, slice}
 use Rattle.words.proofs.Slices.{slices, slice-byte, slice16, slice32}
-use Rattle.record.specs.declared.clause.ClauseWords.{ClauseWords}
+use Rattle.clause.specs.declared.clause.ClauseWords.{ClauseWords}
 use Rattle.record.specs.declared.sample.Sample.{Sample}
 use Rattle.record.specs.declared.sample.SampleWords.{SampleWords}
 use Rattle.record.specs.declared.sample.SampleFault.{SampleFault}
@@ -29,13 +29,13 @@ use Rattle.record.specs.declared.row.RowWords.{RowWords}
 use Rattle.record.specs.declared.row.RowPlace.{RowPlace}
 use Rattle.record.specs.declared.row.RowFault.{RowFault}
 use Rattle.record.specs.declared.row.RowFault.the-variants as row
-use Rattle.record.specs.Asking.{ask, within}
-use Rattle.record.specs.Clauses.{clauseRead, clauseWords, Legal}
+use Rattle.clause.specs.Asking.{ask, within}
+use Rattle.clause.specs.Clauses.{clauseRead, clauseWords, Legal}
 use Rattle.record.specs.Samples.{sampleWordsAt, sampleRead, wordsOfSample, sampleBytes}
 use Rattle.record.specs.Gaps.{gapWordsAt, gapRead, wordsOfGap, gapBytes}
 use Rattle.record.specs.Rows.{most, small, rowWordsAt, rowOf, sizesRead, weightRead, weighing, weight, numbersRead, rowRead, wordsOfRow, rowBytes}
-use Rattle.record.proofs.Questions.{passed, passed-within}
-use Rattle.record.proofs.ClauseTrips.{clause-back, clause-legal}
+use Rattle.clause.proofs.Questions.{passed, passed-within}
+use Rattle.clause.proofs.ClauseTrips.{clause-back, clause-legal}
 
 -- a number of 32 bits
 abbrev Word : ℕ → Type 0

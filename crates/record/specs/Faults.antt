@@ -1,8 +1,8 @@
 -- Each fault of a record: the number of the question that said no, and the offset of its field from the record's first byte.
 use Prim.Native.Nat.{ℕ}
 use Rattle.record.specs.declared.asked.Asked.{Asked}
-use Rattle.record.specs.declared.clause.ClauseFault.{ClauseFault}
-use Rattle.record.specs.declared.clause.ClauseFault.the-variants.{TopSpeedNotFinite, TopSpeedNegative, CurvatureNotFinite, FixedTooGreat, FirstNotZero, SecondNotZero}
+use Rattle.clause.specs.declared.clause.ClauseFault.{ClauseFault}
+use Rattle.clause.specs.declared.clause.ClauseFault.the-variants.{TopSpeedNotFinite, TopSpeedNegative, CurvatureNotFinite, FixedTooGreat, FirstNotZero, SecondNotZero}
 use Rattle.record.specs.declared.sample.SampleFault.{SampleFault}
 use Rattle.record.specs.declared.sample.SampleFault.the-variants as sample
 use Rattle.record.specs.declared.gap.GapFault.{GapFault}

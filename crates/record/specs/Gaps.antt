@@ -10,7 +10,7 @@ use Rattle.record.specs.declared.gap.Gap.{Gap}
 use Rattle.record.specs.declared.gap.GapWords.{GapWords}
 use Rattle.record.specs.declared.gap.GapFault.{GapFault}
 use Rattle.record.specs.declared.gap.GapFault.the-variants.{Rise, Fall, ZeroBytes, Up, Down}
-use Rattle.record.specs.Asking.{ask}
+use Rattle.clause.specs.Asking.{ask}
 
 -- rise, fall, zero, up, down
 abbrev pub gapWordsAt : List ℕ → ℕ → GapWords

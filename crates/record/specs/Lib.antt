@@ -1,5 +1,3 @@
-pub mod Asking
-pub mod Clauses
 pub mod Samples
 pub mod Gaps
 pub mod Rows

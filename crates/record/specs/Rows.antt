@@ -15,7 +15,7 @@ use Rattle.record.specs.declared.row.RowWords.{RowWords}
 use Rattle.record.specs.declared.row.RowPlace.{RowPlace}
 use Rattle.record.specs.declared.row.RowFault.{RowFault}
 use Rattle.record.specs.declared.row.RowFault.the-variants.{Gap, ZeroBytes, Order, D, C, G, Lo, Hi, LoAboveHi, NoD, Weight}
-use Rattle.record.specs.Asking.{ask, within}
+use Rattle.clause.specs.Asking.{ask, within}
 
 -- gap, zero, d, c, g, lo, hi
 abbrev pub rowWordsAt : List ℕ → ℕ → RowWords

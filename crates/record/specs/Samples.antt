@@ -13,8 +13,8 @@ use Rattle.record.specs.declared.sample.Sample.{Sample}
 use Rattle.record.specs.declared.sample.SampleWords.{SampleWords}
 use Rattle.record.specs.declared.sample.SampleFault.{SampleFault}
 use Rattle.record.specs.declared.sample.SampleFault.the-variants.{Kind, ZeroByte, ClassCap, ClassFloor, Clause, SpeedFloor, EndOffset}
-use Rattle.record.specs.Asking.{ask, within}
-use Rattle.record.specs.Clauses.{clauseRead, clauseWords}
+use Rattle.clause.specs.Asking.{ask, within}
+use Rattle.clause.specs.Clauses.{clauseRead, clauseWords}
 
 -- kind, class cap, class floor, zero, two numbers, speed floor, q
 abbrev pub sampleWordsAt : List ℕ → ℕ → SampleWords

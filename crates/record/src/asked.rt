@@ -2,11 +2,11 @@
 ghost use mathlib.Core.Path.{_≡_};
 ghost use Prim.Native.Nat.{_<_};
 ghost use Rattle.record.specs.Faults.{clauseOffset, sampleAsked, gapAsked, rowAsked};
-use super::clause::ClauseFault;
 use super::gap::GapFault;
 use super::layout;
 use super::row::RowFault;
 use super::sample::SampleFault;
+use clause::ClauseFault;
 
 // A question's number and the failing field's offset from the record's first byte.
 #[derive(Clone, Copy)]
@@ -15,17 +15,16 @@ pub struct Asked {
     pub offset: usize,
 }
 
-impl ClauseFault {
-    fn offset(self) -> usize
-        ensures { λ r. ⌜ r ≡ clauseOffset self ⌝ }
-    {
-        match self {
-            ClauseFault::TopSpeedNotFinite
-            | ClauseFault::TopSpeedNegative
-            | ClauseFault::FixedTooGreat
-            | ClauseFault::FirstNotZero => layout::SAMPLE_FIRST,
-            ClauseFault::CurvatureNotFinite | ClauseFault::SecondNotZero => layout::SAMPLE_SECOND,
-        }
+// Of a clause's two numbers, where the one lies that does not fit.
+fn clause_offset(fault: ClauseFault) -> usize
+    ensures { λ r. ⌜ r ≡ clauseOffset fault ⌝ }
+{
+    match fault {
+        ClauseFault::TopSpeedNotFinite
+        | ClauseFault::TopSpeedNegative
+        | ClauseFault::FixedTooGreat
+        | ClauseFault::FirstNotZero => layout::SAMPLE_FIRST,
+        ClauseFault::CurvatureNotFinite | ClauseFault::SecondNotZero => layout::SAMPLE_SECOND,
     }
 }
 
@@ -39,7 +38,7 @@ impl SampleFault {
             SampleFault::ZeroByte => (21, layout::SAMPLE_ZERO),
             SampleFault::ClassCap => (22, layout::SAMPLE_CLASS_CAP),
             SampleFault::ClassFloor => (22, layout::SAMPLE_CLASS_FLOOR),
-            SampleFault::Clause(fault) => (23, fault.offset()),
+            SampleFault::Clause(fault) => (23, clause_offset(fault)),
             SampleFault::SpeedFloor => (24, layout::SAMPLE_SPEED_FLOOR),
             SampleFault::EndOffset => (25, layout::SAMPLE_Q),
         };

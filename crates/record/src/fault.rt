@@ -1,5 +1,5 @@
 // A fault of one record among many of its kind.
-#[derive(Clone, Copy, PartialEq, Eq, Debug)]
+#[derive(Clone, Copy)]
 pub struct RecordFault<F> {
     // The record's number among them, from 0.
     pub index: usize,

@@ -31,7 +31,7 @@ pub struct GapWords {
     pub zero: u16,
 }
 
-#[derive(Clone, Copy, PartialEq, Eq, Debug)]
+#[derive(Clone, Copy)]
 pub enum GapFault {
     Rise,
     Fall,

@@ -46,9 +46,6 @@ pub const ROW_LO: usize = 16;
 
 pub const ROW_HI: usize = 20;
 
-// The kinds of cap clause.
-pub const KIND_FREE: u8 = 0;
-
 pub const KIND_STRAIGHT: u8 = 1;
 
 pub const KIND_BEND: u8 = 2;

@@ -1,7 +1,5 @@
 // The records of a path frame: each as it lies in the bytes, the questions asked of it, and the typed value that it stands for.
 mod asked;
-mod bits;
-mod clause;
 mod fault;
 mod gap;
 pub mod layout;
@@ -9,28 +7,15 @@ mod row;
 mod sample;
 
 pub use asked::Asked;
-pub use clause::Bend;
-pub use clause::CapClause;
-pub use clause::ClauseFault;
-pub use clause::ClauseWords;
-pub use clause::read_clause;
 pub use fault::RecordFault;
-pub use fault::RecordFaultDebug;
-pub use fault::RecordFaultPartialEq;
 pub use gap::Gap;
 pub use gap::GapFault;
-pub use gap::GapFaultDebug;
-pub use gap::GapFaultPartialEq;
 pub use gap::GapWords;
 pub use row::RowFault;
-pub use row::RowFaultDebug;
-pub use row::RowFaultPartialEq;
 pub use row::RowPlace;
 pub use row::RowWords;
 pub use row::TorqueRow;
 pub use sample::Sample;
 pub use sample::SampleFault;
-pub use sample::SampleFaultDebug;
-pub use sample::SampleFaultPartialEq;
 pub use sample::SampleFromClause;
 pub use sample::SampleWords;

@@ -39,7 +39,7 @@ pub struct RowWords {
     pub hi: u32,
 }
 
-#[derive(Clone, Copy, PartialEq, Eq, Debug)]
+#[derive(Clone, Copy)]
 pub enum RowFault {
     // There is no such gap.
     Gap,

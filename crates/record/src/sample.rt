@@ -3,16 +3,9 @@ ghost use mathlib.Core.Path.{_≡_};
 ghost use Prim.Native.Nat.{_+_, _≤_};
 ghost use lib.ListN.{length};
 ghost use Rattle.record.specs.declared.sample.SampleFault.the-variants.{Clause};
-ghost use Rattle.record.specs.Clauses.{Legal};
+ghost use Rattle.clause.specs.Clauses.{Legal};
 ghost use Rattle.record.specs.Samples.{sampleWordsAt, sampleRead, wordsOfSample, sampleBytes};
-use super::clause::CapClause;
-use super::clause::ClauseFault;
-use super::clause::ClauseFaultDebug;
-use super::clause::ClauseFaultPartialEq;
-use super::clause::ClauseWords;
-use super::clause::read_clause;
 use super::layout::CLASS_TOP;
-use super::layout::KIND_FIXED;
 use super::layout::SAMPLE_CLASS_CAP;
 use super::layout::SAMPLE_CLASS_FLOOR;
 use super::layout::SAMPLE_FIRST;
@@ -23,6 +16,11 @@ use super::layout::SAMPLE_SIZE;
 use super::layout::SAMPLE_SPEED_FLOOR;
 use super::layout::SAMPLE_ZERO;
 use caps::MOST;
+use clause::CapClause;
+use clause::ClauseFault;
+use clause::ClauseWords;
+use clause::KIND_FIXED;
+use clause::read_clause;
 use words::be32;
 
 // A sample as its record lies in the frame.
@@ -47,7 +45,7 @@ pub struct Sample {
     pub q: i32,
 }
 
-#[derive(Clone, Copy, PartialEq, Eq, Debug)]
+#[derive(Clone, Copy)]
 pub enum SampleFault {
     // The kind is none of 0 to 3.
     Kind,

@@ -37,7 +37,7 @@ pub(crate) fn class_step(frame: PathFrame<'_>, gap: usize) -> Step
     requires { ⌜ gap < length (classSteps (pathOf (now (frame .bytes)))) ⌝ }
     ensures { λ r. ⌜ r ≡ getD (classSteps (pathOf (now (frame .entry .bytes)))) gap noStep ⌝ }
 {
-    match frame.gap_in_place(gap) {
+    match frame.gap(gap) {
         Some(found) => Step {
             up: found.rise as u32,
             down: found.fall as u32,
@@ -50,7 +50,7 @@ pub(crate) fn speed_step(frame: PathFrame<'_>, gap: usize) -> Step
     requires { ⌜ gap < length (speedSteps (pathOf (now (frame .bytes)))) ⌝ }
     ensures { λ r. ⌜ r ≡ getD (speedSteps (pathOf (now (frame .entry .bytes)))) gap noStep ⌝ }
 {
-    match frame.gap_in_place(gap) {
+    match frame.gap(gap) {
         Some(found) => Step {
             up: found.up,
             down: found.down,
@@ -63,7 +63,7 @@ pub(crate) fn torque_row(frame: PathFrame<'_>, at: usize) -> Row
     requires { ⌜ at < length (rowsOf (pathOf (now (frame .bytes)))) ⌝ }
     ensures { λ r. ⌜ r ≡ rowAt (rowsOf (pathOf (now (frame .entry .bytes)))) at ⌝ }
 {
-    match frame.row_in_place(at) {
+    match frame.row(at) {
         Some(found) => Row {
             gap: found.gap,
             d: found.d,
@@ -80,7 +80,7 @@ pub(crate) fn offset(frame: PathFrame<'_>, sample: usize) -> i32
     requires { ⌜ sample < length (offsetsOf (pathOf (now (frame .bytes)))) ⌝ }
     ensures { λ r. ⌜ r ≡ getD (offsetsOf (pathOf (now (frame .entry .bytes)))) sample (pos 0) ⌝ }
 {
-    match frame.offset_in_place(sample) {
+    match frame.offset(sample) {
         Some(found) => found,
         None => unreachable(),
     }

@@ -149,7 +149,7 @@ fn ramp_beside_another_make() -> Result<(), Fail> {
     check_eq(number::<Class>(ramp.evaluate(&cells, 0)), 7)?;
     check_eq(number::<Class>(ramp.evaluate(&cells, 1)), 2)?;
     check_eq(number::<Class>(ramp.evaluate(&cells, 2)), 7)?;
-    let most = from_rank(1).ok_or("1 is a class")?;
+    let most = cell::<Class>(1)?.value;
     let pair = Pair {
         first: ramp,
         second: Flat { most },

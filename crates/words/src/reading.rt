@@ -22,11 +22,8 @@ pub fn be32(bytes: &[u8], at: usize) -> u32
 pub fn see_bytes(bytes: &[u8])
     ensures { λ _. ⌜ Bytes (now (bytes .entry)) ⌝ }
 {
-    for byte in bytes {
-        see_byte(*byte);
-    }
+    pass(bytes);
 }
 
-fn see_byte(byte: u8)
-    ensures { λ _. ⌜ byte < 256 ⌝ }
-{}
+// A byte string that was passed is known by its elements' type.
+fn pass(_bytes: &[u8]) {}

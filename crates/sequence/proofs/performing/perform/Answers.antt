@@ -17,7 +17,7 @@ returns-in-Cut-Classes-rest-rest g c =
     let call-is : c .args .call ≡ Cut Classes (c .in-Cut-Classes-rest-rest .sample) (c .in-Cut-Classes-rest-rest .value) = search needs in
     record {
       lent = (c .class-cut .ensures .lent, refl);
-      does = by-name _ _ (c .args .call) _ _ _ _ _ call-is (c .change-answer .ensures) (c .class-cut .ensures .does (g .C·Limit .number (c .args .class-limit .now)) (g .S·Limit .number (c .args .speed-limit .now)));
+      does = by-name _ _ (c .args .call) _ _ _ _ _ call-is (c .change-answer .ensures) (c .class-cut .ensures .promises .does (g .C·Limit .number (c .args .class-limit .now)) (g .S·Limit .number (c .args .speed-limit .now)));
     }
 
 pub returns-in-Cut-Speeds-rest-rest : need.returns-in-Cut-Speeds-rest-rest
@@ -25,7 +25,7 @@ returns-in-Cut-Speeds-rest-rest g c =
     let call-is : c .args .call ≡ Cut Speeds (c .in-Cut-Speeds-rest-rest .sample) (c .in-Cut-Speeds-rest-rest .value) = search needs in
     record {
       lent = (refl, c .speed-cut .ensures .lent);
-      does = by-name _ _ (c .args .call) _ _ _ _ _ call-is (c .change-answer-in-Cut-Speeds-rest-rest .ensures) (c .speed-cut .ensures .does (g .C·Limit .number (c .args .class-limit .now)) (g .S·Limit .number (c .args .speed-limit .now)));
+      does = by-name _ _ (c .args .call) _ _ _ _ _ call-is (c .change-answer-in-Cut-Speeds-rest-rest .ensures) (c .speed-cut .ensures .promises .does (g .C·Limit .number (c .args .class-limit .now)) (g .S·Limit .number (c .args .speed-limit .now)));
     }
 
 pub returns-in-Lift-Classes-rest-rest : need.returns-in-Lift-Classes-rest-rest
@@ -33,7 +33,7 @@ returns-in-Lift-Classes-rest-rest g c =
     let call-is : c .args .call ≡ Lift Classes (c .in-Lift-Classes-rest-rest .sample) (c .in-Lift-Classes-rest-rest .value) = search needs in
     record {
       lent = (c .class-lift .ensures .lent, refl);
-      does = by-name _ _ (c .args .call) _ _ _ _ _ call-is (c .change-answer-in-Lift-Classes-rest-rest .ensures) (c .class-lift .ensures .does (g .C·Limit .number (c .args .class-limit .now)) (g .S·Limit .number (c .args .speed-limit .now)));
+      does = by-name _ _ (c .args .call) _ _ _ _ _ call-is (c .change-answer-in-Lift-Classes-rest-rest .ensures) (c .class-lift .ensures .promises .does (g .C·Limit .number (c .args .class-limit .now)) (g .S·Limit .number (c .args .speed-limit .now)));
     }
 
 pub returns-in-Lift-Speeds-rest-rest : need.returns-in-Lift-Speeds-rest-rest
@@ -41,7 +41,7 @@ returns-in-Lift-Speeds-rest-rest g c =
     let call-is : c .args .call ≡ Lift Speeds (c .in-Lift-Speeds-rest-rest .sample) (c .in-Lift-Speeds-rest-rest .value) = search needs in
     record {
       lent = (refl, c .speed-lift .ensures .lent);
-      does = by-name _ _ (c .args .call) _ _ _ _ _ call-is (c .change-answer-in-Lift-Speeds-rest-rest .ensures) (c .speed-lift .ensures .does (g .C·Limit .number (c .args .class-limit .now)) (g .S·Limit .number (c .args .speed-limit .now)));
+      does = by-name _ _ (c .args .call) _ _ _ _ _ call-is (c .change-answer-in-Lift-Speeds-rest-rest .ensures) (c .speed-lift .ensures .promises .does (g .C·Limit .number (c .args .class-limit .now)) (g .S·Limit .number (c .args .speed-limit .now)));
     }
 
 pub returns-in-Look : need.returns-in-Look

@@ -1,41 +1,33 @@
-use mathlib.Core.Path.{_≡_, refl, sym, ap, subst, _∙_}
-use Rattle.std.specs.declared.result.Result.the-variants.{Ok, Err}
+use mathlib.Core.Path.{refl, ap, _∙_}
+use Rattle.std.specs.declared.result.Result.the-variants.{Err}
 use Rattle.std.proofs.shelf.Results.{err-from-errBy}
 use Rattle.grade.specs.Ranks.{classRank, speedRank}
-use Rattle.limit.specs.Numbers.{Number}
 use Rattle.runs.specs.declared.call.Answer.{Answer}
 use Rattle.runs.specs.declared.call.Answer.the-variants.{Seen}
-use Rattle.runs.specs.declared.call.Call.{Call}
 use Rattle.runs.specs.declared.call.Call.the-variants.{Look}
 use Rattle.runs.specs.Calls.{acted, replied}
 use Rattle.sweep.proofs.Reading.{front-value}
 use Rattle.job.specs.Holding.{Held, held, wholeOf}
-use Rattle.job.specs.Calling.{Does, seen}
-use Rattle.job.proofs.Acting.{refuses, staying, does}
-use Rattle.job.proofs.Lawful.{lawful-call}
+use Rattle.job.specs.Calling.{seen}
+use Rattle.job.proofs.Acting.{staying, does}
+use Rattle.job.proofs.Lawful.{promised, promised-refused}
 use Rattle.job.proofs.job.Job.look.Needs as need
 
 pub returns-in-Break-ask : need.returns-in-Break-ask
 returns-in-Break-ask c =
-    let call : Call = Look (c .args .sample) in
-    let h : Held = held (c .args .self .now) (c .args .classes .now .cells .now) (c .args .speeds .now .cells .now) in
     let r = c .from-residual .result in
     let p = err-from-errBy r (c .from-residual .ensures .1) in
-    let does′ : (a b : Number) → Does a b call h h (seen r) = λ a b.
-    subst (λ x. Does a b call h h (seen x)) (sym (p .1 ∙ ap Err (p .2))) (refuses a b call (h .job) (h .classes) (h .speeds) (c .in-Break-ask .field-0 .0) (c .in-Break-ask .ensures tt .is a b)) in
-    record { does = does′; law = λ a b a-law b-law. lawful-call a b a-law b-law call h h (seen r) (does′ a b) }
+    promised-refused (Look (c .args .sample)) (c .args .self .now) (c .args .classes .now .cells .now) (c .args .speeds .now .cells .now) (seen r) (c .in-Break-ask .field-0 .0)
+    (ap seen (p .1 ∙ ap Err (p .2))) (c .in-Break-ask .ensures tt .is)
 
 pub returns : need.returns
 unfolding acted replied
 returns c =
     let i = c .args .sample in
-    let call : Call = Look i in
     let h : Held = held (c .args .self .now) (c .args .classes .now .cells .now) (c .args .speeds .now .cells .now) in
     let room = c .in-Continue-ask .ensures tt .room in
     let below = c .in-Continue-ask .ensures tt .range in
-    let class = c .rank .ensures ∙ front-value classRank (h .classes) i (h .job .samples .count) (c .index-class-cells-sample .result) below (room .0) in
-    let speed = c .rank-2 .ensures ∙ front-value speedRank (h .speeds) i (h .job .samples .count) (c .index-speed-cells-sample .result) below (room .1) in
+    let class = front-value classRank (h .classes) i (h .job .samples .count) (c .index-class-cells-sample .result) below (room .0) in
+    let speed = front-value speedRank (h .speeds) i (h .job .samples .count) (c .index-speed-cells-sample .result) below (room .1) in
     let x : Answer = Seen (h .job .stage) (c .rank .result) (c .rank-2 .result) in
-    let does′ : (a b : Number) → Does a b call h h x = λ a b.
-    does a b call (h .job) (h .classes) (h .speeds) (c .in-Continue-ask .ensures tt .is a b) h x (staying (wholeOf h) h refl) (cc) in
-    record { does = does′; law = λ a b a-law b-law. lawful-call a b a-law b-law call h h x (does′ a b) }
+    promised (Look i) h h x (λ a b. does a b (Look i) (h .job) (h .classes) (h .speeds) (c .in-Continue-ask .ensures tt .is a b) h x (staying (wholeOf h) h refl) (cc))

@@ -10,5 +10,5 @@ returns c =
     record {
       lent = (refl, refl);
       makes = makes (c .args .samples) (c .args .samples .count - 0) (c .args .classes .now .cells .now) (c .begin-both-stage .last .classes) (c .args .speeds .now .cells .now) (c .begin-both-stage .last .speeds) _
-          (omega arith) (c .if-classes-n .left) (c .if-speeds-n .left) (e .classes) (e .speeds) refl refl (e .stage);
+          (omega arith) (omega (arith, c .if-classes-n .left)) (omega (arith, c .if-speeds-n .left)) (e .classes) (e .speeds) refl refl (e .stage);
     }

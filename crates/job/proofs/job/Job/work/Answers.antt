@@ -46,7 +46,7 @@ loop-evaluations-again g c =
       c .step-lowerings .ensures .samples ∙ i .2,
       (ap (λ x. plus (e + 1) (l + x) (advanced σ (k - (e + 1)) (whole (c .step-lowerings .last .self) (c .step-lowerings .last .classes) (c .step-lowerings .last .speeds)))) fallen′
           ∙ ap (λ j. plus (e + 1) (l + fallen σ t w S) (advanced σ (k - (e + 1)) j)) stepped′
-          ∙ sym (advanced-more σ k e l t w S (c .loop-evaluations-test .taken) (sym (c .if-at-work .ensures tt))) ∙ i .3),
+          ∙ sym (advanced-more σ k e l t w S (omega (arith, c .loop-evaluations-test .taken)) (sym (c .if-at-work .ensures tt))) ∙ i .3),
     )
 
 pub returns : need.returns
@@ -59,6 +59,6 @@ returns g c =
     let l = c .loop-evaluations .lowerings in
     let ends : course j e l ≡ plus e l (advanced σ (k - e) j) = elim (c .loop-evaluations-test .came) [
       | then-loop-evaluations-test·else-at-work w ↦ advanced-rests σ (k - e) e l (j .stage) (j .sweep) (j .sheets) (sym (w .if-at-work .ensures tt))
-      | else-loop-evaluations-test w ↦ advanced-used σ k e l j (w .loop-evaluations-test .left)
+      | else-loop-evaluations-test w ↦ advanced-used σ k e l j (omega (arith, w .loop-evaluations-test .left))
     ] in
     record { samples = i .2; stage = refl; advanced = ends ∙ i .3 }

@@ -1,5 +1,0 @@
-use Rattle.record.proofs.Patterns.{number-float}
-use Rattle.record.proofs.bits.pattern.Needs as need
-
-pub float-to-bits-result : need.float-to-bits-result
-float-to-bits-result c = number-float (c .args .v) (c .pre)
