@@ -1,5 +1,4 @@
 // The program at the bench: a path frame explained, its records rewritten, and scripts of calls replayed.
-mod cells;
 mod checking;
 mod explaining;
 mod files;

@@ -1,37 +1,21 @@
 // `furqyzet plan`: a frame's job made and advanced until its work ends, and the table it settles on.
 use super::Ended;
-use super::cells::Cells;
 use super::checking::print_refusal;
 use super::files::load;
-use frame::Header;
-use frame::PathFrame;
 use frame::read;
 use grade::Cell;
 use grade::Class;
 use grade::ClassGrade;
-use grade::ClassRaisable;
 use grade::Grade;
 use grade::Sheet;
 use grade::Speed;
 use grade::SpeedGrade;
-use grade::SpeedRaisable;
-use limit::Limit;
-use limit::PairLimit;
-use motion::AverageLimit;
-use motion::RampLimit;
-use motion::TorqueLimit;
+use grade::from_rank;
+use planner::plan;
 use runs::Answer;
 use runs::Call;
-use runs::Samples;
 use runs::Stage;
-use sequence::plan;
-use sequence::run;
-use sources::ClassStepsOf;
-use sources::OffsetsOf;
-use sources::RowsOf;
-use sources::SpeedStepsOf;
-use sources::class_limit;
-use sources::speed_limit;
+use std::alloc::Global;
 use std::error::AnyError;
 
 pub fn plan_file(rt: &LibcRuntime, file: &str) -> Result<Ended, AnyError> {
@@ -40,11 +24,7 @@ pub fn plan_file(rt: &LibcRuntime, file: &str) -> Result<Ended, AnyError> {
     };
     let bytes = bytes.as_slice();
     match read(bytes) {
-        Ok(header) => {
-            let frame = PathFrame::over(bytes);
-            let cells = Cells::of(rt.alloc(), &frame)?;
-            plan_path(rt, header, frame, cells)
-        }
+        Ok(header) => plan_frame(rt, bytes, header.samples as usize),
         Err(fault) => {
             print_refusal(rt, fault.refusal())?;
             Ok(Ended::Failed)
@@ -52,65 +32,64 @@ pub fn plan_file(rt: &LibcRuntime, file: &str) -> Result<Ended, AnyError> {
     }
 }
 
-// Plans under the frame's own limits, read in place from its bytes.
-fn plan_path(
-    rt: &LibcRuntime,
-    header: Header,
-    frame: PathFrame<'_>,
-    cells: Cells,
-) -> Result<Ended, AnyError> {
-    let Cells {
-        mut classes,
-        mut speeds,
-    } = cells;
-    let answer = worked(
-        header,
+// Plans an accepted frame in memory for its samples.
+fn plan_frame(rt: &LibcRuntime, bytes: &[u8], samples: usize) -> Result<Ended, AnyError> {
+    let mut classes: Vec<Cell<Class>> = memory(rt.alloc(), samples)?;
+    let mut speeds: Vec<Cell<Speed>> = memory(rt.alloc(), samples)?;
+    let allowance = needed(bytes, classes.as_mut_slice(), speeds.as_mut_slice())?;
+    let answer = planned(
+        bytes,
         classes.as_mut_slice(),
         speeds.as_mut_slice(),
-        &class_limit(frame),
-        &speed_limit(frame),
+        allowance,
     )?;
     print_answer(rt, answer, classes.as_slice(), speeds.as_slice())
 }
 
-// Makes the job and advances it by as many evaluations as it can need.
-fn worked<C: Limit<Class>, S: Limit<Speed>>(
-    header: Header,
-    class_cells: &mut [Cell<Class>],
-    speed_cells: &mut [Cell<Speed>],
-    class_limit: &C,
-    speed_limit: &S,
-) -> Result<Answer, AnyError> {
-    let Ok(samples) = Samples::new(header.samples as u64) else {
-        return Err("a path of too few samples, or too many".into());
-    };
-    let mut classes = Sheet::new(class_cells);
-    let mut speeds = Sheet::new(speed_cells);
+// So many cells of rank 0, for a job to be made in.
+fn memory<G: Grade>(heap: Global, samples: usize) -> Result<Vec<Cell<G>>, AnyError> {
+    let lowest = from_rank(0).ok_or("no grade has rank 0")?;
+    let mut cells = Vec::new(heap);
+    for _ in 0..samples {
+        cells.push(Cell {
+            value: lowest,
+            cap: lowest,
+            floor: lowest,
+        })?;
+    }
+    Ok(cells)
+}
+
+// As many evaluations as the frame's job can need.
+fn needed(
+    bytes: &[u8],
+    classes: &mut [Cell<Class>],
+    speeds: &mut [Cell<Speed>],
+) -> Result<u64, AnyError> {
     let mut answers = [Answer::Done];
-    let Ok(mut job) = plan(
-        samples,
-        &mut classes,
-        &mut speeds,
-        class_limit,
-        speed_limit,
-        &[],
-        &mut answers,
-    ) else {
+    let Ok(job) = plan(bytes, classes, speeds, &[], &mut answers) else {
         return Err("too little memory for the samples".into());
     };
-    let Ok(allowance) = job.sufficient_allowance(&classes, &speeds) else {
-        return Err("too little memory for the samples".into());
-    };
+    let classes = Sheet::new(classes);
+    let speeds = Sheet::new(speeds);
+    match job.sufficient_allowance(&classes, &speeds) {
+        Ok(allowance) => Ok(allowance),
+        Err(_) => Err("too little memory for the samples".into()),
+    }
+}
+
+// The answer of the one advance that ends the work.
+fn planned(
+    bytes: &[u8],
+    classes: &mut [Cell<Class>],
+    speeds: &mut [Cell<Speed>],
+    allowance: u64,
+) -> Result<Answer, AnyError> {
     let calls = [Call::Advance(allowance)];
-    let _ = run(
-        &mut job,
-        &mut classes,
-        &mut speeds,
-        class_limit,
-        speed_limit,
-        &calls,
-        &mut answers,
-    );
+    let mut answers = [Answer::Done];
+    let Ok(job) = plan(bytes, classes, speeds, &calls, &mut answers) else {
+        return Err("too little memory for the samples".into());
+    };
     match job.stage() {
         Stage::Impossible(sample) => Ok(Answer::Advanced {
             stage: Stage::Impossible(sample),
