@@ -152,12 +152,13 @@ def wanted(data):
 def main():
     count = int(sys.argv[1]) if len(sys.argv) > 1 else 500
     rng = random.Random(int(sys.argv[2]) if len(sys.argv) > 2 else 1)
-    wrong = settled = 0
+    wrong = settled = planned = 0
     with tempfile.TemporaryDirectory() as folder:
         for _ in range(count):
             data = path(rng)
             if refusal(data):
                 continue
+            planned += 1
             Path(folder, "one.path").write_bytes(data)
             out = subprocess.run([PROGRAM, "plan", "one.path"], cwd=folder, capture_output=True, text=True).stdout.splitlines()
             got = out[:1] + [" ".join(line.split()[:3]) for line in out[2:]]
@@ -165,7 +166,7 @@ def main():
             if got != wanted(data):
                 wrong += 1
                 print(data.hex(), got, wanted(data), sep="\n  ")
-    print(f"{count} paths, {settled} settled, {wrong} differ")
+    print(f"{planned} paths planned of {count} drawn (the reader refuses the rest), {settled} settled, {wrong} differ")
     sys.exit(1 if wrong else 0)
 
 

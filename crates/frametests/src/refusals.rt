@@ -18,7 +18,7 @@ struct Change {
 }
 
 // Changes to the header, to samples and to gaps.
-static FRONT: [Change; 30] = [
+static FRONT: [Change; 31] = [
     Change {
         at: 0,
         to: 0,
@@ -76,6 +76,12 @@ static FRONT: [Change; 30] = [
     Change {
         at: 13,
         to: 33,
+        number: 17,
+        place: 13,
+    },
+    Change {
+        at: 13,
+        to: 255,
         number: 17,
         place: 13,
     },
@@ -344,6 +350,10 @@ fn changes_of_rows_are_refused(rt: LibcRuntime) -> Result<(), Fail> {
 // Order of numbers, not of bytes: 21 before 22, 41 before 42, 44 before 45.
 #[test]
 fn lower_numbers_are_asked_first(rt: LibcRuntime) -> Result<(), Fail> {
+    let mut bytes = path(rt.alloc())?;
+    set(&mut bytes, 8, 0);
+    set(&mut bytes, 9, 128);
+    check_eq(refusal(bytes.as_slice()), (15, 7)).note("h and a are both wrong")?;
     let mut bytes = path(rt.alloc())?;
     set(&mut bytes, SAMPLES + 1, 8);
     set(&mut bytes, SAMPLES + 3, 1);
