@@ -1,4 +1,6 @@
 // Caps on squared speed, exactly as the IEEE values of a top speed and a curvature give them.
+#![tactic(auto)]
+
 mod bend;
 mod straight;
 

@@ -1,4 +1,6 @@
 // Cap clauses: what bounds a sample's squared speed from above, read from a kind and two numbers, and the cap that it gives.
+#![tactic(auto)]
+
 mod bits;
 mod clause;
 

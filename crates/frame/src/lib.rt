@@ -1,3 +1,5 @@
+#![tactic(auto)]
+
 mod accessing;
 mod body;
 mod fault;

@@ -1,4 +1,6 @@
 // Tests of the frame reader and the caps on examples: every refusal at two places, clauses at their extremes, exact caps.
+#![tactic(auto)]
+
 #[cfg(test)]
 mod building;
 #[cfg(test)]

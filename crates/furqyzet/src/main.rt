@@ -1,4 +1,6 @@
 // The program at the bench: a path frame explained, its records rewritten, and scripts of calls replayed.
+#![tactic(auto)]
+
 mod checking;
 mod explaining;
 mod files;

@@ -1,4 +1,6 @@
 // Grades: the values of a sample, each with a rank from 0 to the top of its make. Cells of them, and sheets of cells.
+#![tactic(auto)]
+
 mod cell;
 mod class;
 mod grade;

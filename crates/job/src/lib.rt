@@ -1,4 +1,6 @@
 // The job: sweeps over two sheets under two limits, and the calls that steer it.
+#![tactic(auto)]
+
 mod advancing;
 mod allowing;
 mod asking;

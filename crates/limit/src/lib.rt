@@ -1,4 +1,6 @@
 // Limits: what each sample of a profile may at most be, given the others. The trait, its laws, and two limits as one.
+#![tactic(auto)]
+
 mod limit;
 mod pair;
 

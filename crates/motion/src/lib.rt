@@ -1,4 +1,6 @@
 // The limits of motion: ramp for every raisable grade, average and torque for squared speeds, and where their data lie.
+#![tactic(auto)]
+
 mod average;
 mod floor;
 mod offsets;

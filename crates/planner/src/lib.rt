@@ -1,5 +1,7 @@
 // From a path frame's bytes to a plan: the questions before a making, the making, and whole plans under the frame's own
 // limits or any two lawful ones.
+#![tactic(auto)]
+
 mod asking;
 mod cells;
 mod fault;

@@ -1,4 +1,6 @@
 // The records of a path frame: each as it lies in the bytes, the questions asked of it, and the typed value that it stands for.
+#![tactic(auto)]
+
 mod asked;
 mod fault;
 mod gap;

@@ -1,4 +1,6 @@
 // The planner's job as definitions over ranks, with the plain types that its calls use.
+#![tactic(auto)]
+
 mod call;
 mod counting;
 mod finding;

@@ -1,4 +1,6 @@
 // Sequences of calls on a job, and whole plans: a job made of its memory and a sequence of calls on it.
+#![tactic(auto)]
+
 mod performing;
 mod planning;
 mod running;

@@ -1,4 +1,6 @@
 // From a settled job to the bytes that a drive is sent: release, which spends the job, and the setpoint frame.
+#![tactic(auto)]
+
 mod fault;
 mod layout;
 mod released;

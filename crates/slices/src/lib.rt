@@ -1,4 +1,6 @@
 // Data of limits in slices: steps, offsets and rows as sources, a check of rows, and the speed limit over all three.
+#![tactic(auto)]
+
 mod offsets;
 mod row_slice;
 mod rows;

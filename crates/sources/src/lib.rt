@@ -1,5 +1,7 @@
 // The limits of a path frame, over data read in place from its bytes: steps, offsets and rows of an accepted frame as
 // sources, the class limit and the speed limit.
+#![tactic(auto)]
+
 mod limits;
 mod offsets;
 mod reading;

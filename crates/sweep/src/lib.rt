@@ -1,4 +1,6 @@
 // The work on one sheet, the same for every make of grade and every limit.
+#![tactic(auto)]
+
 mod beginning;
 mod changing;
 mod step;

@@ -1,4 +1,6 @@
 // Trials of limits: one by another maker, and every limit at the extremes of its numbers.
+#![tactic(auto)]
+
 mod extremes;
 mod flat;
 

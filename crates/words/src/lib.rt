@@ -1,4 +1,6 @@
 // Big-endian numbers in byte strings: reading them in place, and writing bytes into lent memory.
+#![tactic(auto)]
+
 mod reading;
 mod writing;
 
