@@ -27,13 +27,13 @@ returns c =
           let z = x - 149 in
           let n : z + 149 ≡ x = omega (arith, w.if-x-ge-UNIT.true) in
           let e : c.if-x-ge-UNIT.w ≡ a / (s * 2 ^ min z 32) =
-          w.w_is ∙ ap (λ (k : ℕ). a / (s * 2 ^ k % 2 ^ 128)) w.min-by.ensures ∙ ap (λ (k : ℕ). a / k) (whole s 24 z 32 c.requires.0 (omega arith)) in
+          w.w-is ∙ ap (λ (k : ℕ). a / (s * 2 ^ k % 2 ^ 128)) w.min-by.ensures ∙ ap (λ (k : ℕ). a / k) (whole s 24 z 32 c.requires.0 (omega arith)) in
           subst (λ (k : ℕ). BendCap s k a c.min.result) n
           (cap_large s z a c.min.result S c.ranges.a.fits (c.min.ensures ∙ ap (λ (k : ℕ). min k 2147483647) e))
       | else-x-ge-UNIT w ↦
           let y = 149 - x in
           let n : x + y ≡ 149 = omega (arith, w.if-x-ge-UNIT.false) in
           let e : c.if-x-ge-UNIT.w ≡ a * 2 ^ min y 55 / s =
-          w.w_is ∙ ap (λ (k : ℕ). a * 2 ^ k % 2 ^ 128 / s) w.min-by-else-x-ge-UNIT.ensures ∙ ap (λ (k : ℕ). k / s) (whole a 32 y 55 c.ranges.a.fits (omega arith)) in
+          w.w-is ∙ ap (λ (k : ℕ). a * 2 ^ k % 2 ^ 128 / s) w.min-by-else-x-ge-UNIT.ensures ∙ ap (λ (k : ℕ). k / s) (whole a 32 y 55 c.ranges.a.fits (omega arith)) in
           cap_small s x y a c.min.result S c.requires.0 n (c.min.ensures ∙ ap (λ (k : ℕ). min k 2147483647) e)
     ]

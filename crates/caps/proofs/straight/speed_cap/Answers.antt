@@ -13,5 +13,5 @@ float-to-float-square-2 c = widens c.args.v (subst T (sym c.well-formed.0.1) tt)
 pub returns : goal.returns
 unfolding of_bits
 returns c =
-    speed_cap_fits c.args.v c.min.result (subst T (sym c.well-formed.0.1) tt) c.requires
+    speed_cap_fits c.args.v c.min.result (subst T (sym c.good.0.1) tt) c.requires
     (c.min.ensures ∙ ap (λ (z : ℕ). min z 2147483647) c.saturating-f64-to-u32.ensures)
