@@ -30,5 +30,5 @@ pub trait Grade: Copy {
 // A raisable grade also has a raise: raised by k, its rank is the smaller of its rank + k and the top.
 pub trait Raisable: Grade {
     fn raise(self, by: u32) -> Self
-        ensures { rank result ≡ min (rank self + by) top };
+        ensures { Self.rank result ≡ min (Self.rank self + by) Self.top };
 }

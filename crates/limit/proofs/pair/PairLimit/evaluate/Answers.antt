@@ -3,7 +3,7 @@ use Rattle.std.proofs.Common.{rules}
 use Rattle.grade.proofs.Ranking.{ranks_within}
 use Rattle.limit.proofs.pair.PairLimit.evaluate.Goals as goal
 
-pub returns-in-err-first : goal.returns-in-err-first
-returns-in-err-first g c =
+pub returns-in_err-first : goal.returns-in_err-first
+returns-in_err-first g c =
     let low = g.met.B.Limit.low c.args.self.now.second _ c.args.at (ranks_within g.G.Grade.rank g.G.Grade.top g.met.G.Grade.within c.args.cells.now) in
     search rules
