@@ -10,8 +10,8 @@ use Rattle.caps.proofs.bend.quotient_cap.Goals.{then-x-ge-UNIT, else-x-ge-UNIT}
 whole : (v j z m : ℕ) → v < 2 ^ j → j + m ≤ 128 → v * 2 ^ min z m % 2 ^ 128 ≡ v * 2 ^ min z m
 whole v j z m h l = shl_whole v j (min z m) 128 h (omega (arith, min-le_right z m))
 
-pub nonzero-div-w : goal.nonzero-div-w
-nonzero-div-w c =
+pub nonzero_div-w : goal.nonzero_div-w
+nonzero_div-w c =
     let e = whole c.args.s 24 (c.args.x - 149) 32 c.requires.0 (omega arith) in
     let p : 0 < c.args.s * 2 ^ min (c.args.x - 149) 32 = mul-pos (omega arith) (pow_pos (min (c.args.x - 149) 32)) in
     rw c.min-by.ensures (omega arith)
