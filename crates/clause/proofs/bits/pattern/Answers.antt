@@ -1,5 +1,5 @@
 use Rattle.clause.proofs.Patterns.{number_float}
 use Rattle.clause.proofs.bits.pattern.Goals as goal
 
-pub float-to-bits-result : goal.float-to-bits-result
-float-to-bits-result c = number_float c.args.v c.requires
+pub float_to_bits-result : goal.float_to_bits-result
+float_to_bits-result c = number_float c.args.v c.requires
