@@ -1,11 +1,11 @@
 -- A clause that was read is written as the words that it was read from.
-use Rattle.std.proofs.Common.{◌≡◌, ℕ, ◌^◌, ◌<◌, ◌≤◌, Bool, true, false, cond, not, eqb, ltb, leb, Ok, Err, Result, sym, refl, ap, ◌∙◌, arith}
+use Rattle.std.proofs.Common.{◌≡◌, ℕ, ◌^◌, ◌<◌, ◌≤◌, not, eqb, leb, Ok, sym, refl, ap, ◌∙◌, arith}
 use lib.Ieee.{Float, of_bits, binary32}
 use Rattle.std.proofs.lemmas.Bool.{eqb-true, eqb-false}
 use Rattle.caps.specs.Floats.{bits_of, finite_bits}
 use Rattle.clause.specs.declared.clause.ClauseWords.{ClauseWords}
 use Rattle.clause.specs.declared.clause.CapClause.{CapClause}
-use Rattle.clause.specs.declared.clause.CapClause.TheVariants.{Free, Straight, Bend, Fixed}
+use Rattle.clause.specs.declared.clause.CapClause.TheVariants.{Free, Straight, Fixed}
 use Rattle.clause.specs.declared.clause.ClauseFault.{ClauseFault}
 use Rattle.clause.specs.declared.clause.ClauseFault.TheVariants.{TopSpeedNotFinite, TopSpeedNegative, CurvatureNotFinite, FixedTooGreat, FirstNotZero, SecondNotZero}
 use Rattle.clause.specs.Asking.{ask, within}

@@ -1,6 +1,6 @@
 -- A finite pattern is no NaN's, and neither is what is written as one.
-use Rattle.std.proofs.Common.{◌≡◌, ℕ, ◌*◌, ◌%◌, ◌^◌, ◌<◌, Bool, true, false, not, T, ltb, sym, refl, ap, ◌∙◌, subst, true≢false, arith}
-use lib.Ieee.{Float, nan, inf, fin, binary32, to_bits, of_bits, nan_bits, is_nan, size}
+use Rattle.std.proofs.Common.{◌≡◌, ℕ, ◌%◌, ◌^◌, ◌<◌, Bool, true, false, not, T, sym, ◌∙◌, subst, true≢false, arith}
+use lib.Ieee.{Float, nan, inf, fin, binary32, to_bits, of_bits, nan_bits, is_nan}
 use lib.Ieee.Bits.{nan_bits_is, nan_bits_above, to_bits-of_bits}
 use Rattle.std.proofs.lemmas.Bool.{ltb-true, le-ltb}
 use Rattle.caps.specs.Floats.{finite_bits}

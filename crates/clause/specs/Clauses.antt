@@ -1,9 +1,8 @@
 -- Cap clauses: what their numbers must be, the clause that they stand for, and the cap that it gives.
-use Rattle.std.specs.Prelude.{◌≡◌, ℕ, ◌<◌, ◌≤◌, min, Bool, true, cond, not, Ok, Err, Result, ◌==◌, from_bits, nat_le, nat_lt, Float}
+use Rattle.std.specs.Prelude.{◌≡◌, ℕ, min, Bool, cond, not, Ok, Result, ◌==◌, from_bits, nat_le, nat_lt, Float}
 use Rattle.std.specs.Float.{binary32}
 use Rattle.caps.specs.Floats.{bits_of, finite_bits, significand, shift}
 use Rattle.caps.specs.Caps.{SpeedCap, BendCap}
-use Rattle.clause.specs.declared.clause.Bend.{Bend as BendOf}
 use Rattle.clause.specs.declared.clause.ClauseWords.{ClauseWords}
 use Rattle.clause.specs.declared.clause.CapClause.{CapClause}
 use Rattle.clause.specs.declared.clause.CapClause.TheVariants.{Free, Straight, Bend, Fixed}
