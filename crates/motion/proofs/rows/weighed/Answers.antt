@@ -8,6 +8,6 @@ returns c =
     let k = c.ranges.c in
     let d64 : SFits w64 c.args.d = omega (arith, ints) in
     let k64 : SFits w64 c.args.c = omega (arith, ints) in
-    let s : SFits w64 c.scaled.result = record { sfits = c.scaled.type-inv } in
+    let s : SFits w64 c.scaled.result = record { sfits = c.scaled.type_inv } in
     let t : SFits w64 (c.args.d -ℤ c.scaled.result) = let m = c.scaled.ensures.small in omega (arith, ints) in
     simp to_z-of_z (ap (λ (z : ℤ). c.args.d -ℤ z) (simp to_z-of_z at c.scaled.ensures.value))

@@ -7,7 +7,7 @@ returns c =
     let u = c.ranges.upper in
     let l = c.ranges.lower in
     let d : SFits w64 (c.args.upper -ℤ c.args.lower) = omega (arith, ints) in
-    let s : SFits w64 c.scaled.result = record { sfits = c.scaled.type-inv } in
+    let s : SFits w64 c.scaled.result = record { sfits = c.scaled.type_inv } in
     let u64 : SFits w64 c.args.upper = omega (arith, ints) in
     let l64 : SFits w64 c.args.lower = omega (arith, ints) in
     record { value = simp to_z-of_z (simp to_z-of_z at c.scaled.ensures.value); small = simp to_z-of_z c.scaled.ensures.small }

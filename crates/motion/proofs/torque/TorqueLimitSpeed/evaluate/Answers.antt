@@ -8,7 +8,7 @@ pub loop-k-init : goal.loop-k-init
 loop-k-init g c =
     let rows = c.args.self.now.rows in
     rest_first (g.R.Rows.spacing rows) (g.R.Rows.rows rows) (g.R.Rows.sound rows) (ranks speed_rank c.args.cells.now) c.args.at
-    c.first-row-k.result _ c.first-row-k.ensures.within c.first-row-k.ensures.before c.unbounded-least.ensures
+    c.first_row-k.result _ c.first_row-k.ensures.within c.first_row-k.ensures.before c.unbounded-least.ensures
 
 pub returns-then-row-at : goal.returns-then-row-at
 returns-then-row-at g c =
@@ -22,18 +22,18 @@ beside-requires g c =
     sound_row_lem (g.R.Rows.spacing rows) (g.R.Rows.rows rows) (g.R.Rows.sound rows) (ranks speed_rank c.args.cells.now) c.args.at
     c.loop-k.k _ _ (omega arith) c.spacing-h.ensures c.row-row.ensures
 
-pub returns-in-err-beside : goal.returns-in-err-beside
-returns-in-err-beside g c =
+pub returns-in_err-beside : goal.returns-in_err-beside
+returns-in_err-beside g c =
     let rows = c.args.self.now.rows in
-    rw c.from-residual.ensures
+    rw c.from_residual.ensures
     (rest_nothing (g.R.Rows.spacing rows) (g.R.Rows.rows rows) (g.R.Rows.sound rows) (ranks speed_rank c.args.cells.now) c.args.at
-    c.loop-k.k _ _ (omega arith) c.spacing-h.ensures c.row-row.ensures _ c.loop-k.invariant c.in-err-beside.ensures)
+    c.loop-k.k _ _ (omega arith) c.spacing-h.ensures c.row-row.ensures _ c.loop-k.invariant c.in_err-beside.ensures)
 
 pub loop-k-preserved : goal.loop-k-preserved
 loop-k-preserved g c =
     let rows = c.args.self.now.rows in
     rest_more (g.R.Rows.spacing rows) (g.R.Rows.rows rows) (g.R.Rows.sound rows) (ranks speed_rank c.args.cells.now) c.args.at
-    c.loop-k.k _ _ (omega arith) c.spacing-h.ensures c.row-row.ensures _ _ _ c.loop-k.invariant c.in-ok-beside.ensures c.lower-least.ensures
+    c.loop-k.k _ _ (omega arith) c.spacing-h.ensures c.row-row.ensures _ _ _ c.loop-k.invariant c.in_ok-beside.ensures c.lower-least.ensures
 
 pub returns : goal.returns
 returns g c =
