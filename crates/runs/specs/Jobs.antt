@@ -1,8 +1,7 @@
 -- A job: its stage, its sweep and its sheets.
-use Rattle.std.specs.Prelude.{ℕ, suc, ◌-◌, Bool, true, false, cond, not}
+use Rattle.std.specs.Prelude.{ℕ, suc, ◌-◌, true, false, cond, not}
 use Rattle.runs.specs.declared.stage.Stage.{Stage}
 use Rattle.runs.specs.declared.stage.Sweep.{Sweep}
-use Rattle.runs.specs.declared.stage.Make.{Make}
 use Rattle.runs.specs.Sheets.{Sheets}
 
 -- a sweep that begins: rising, nothing visited, nothing lowered

@@ -1,7 +1,7 @@
 -- What a job works under, the same throughout: how many samples, the top and the limit of each make, and the class table.
 use Rattle.std.specs.Prelude.{ℕ, ◌<◌, ◌≤◌}
 use Rattle.runs.specs.declared.stage.Make.{Make}
-use Rattle.runs.specs.declared.stage.Make.TheVariants.{Classes, Speeds}
+use Rattle.runs.specs.declared.stage.Make.TheVariants.{Classes}
 use Rattle.limit.specs.Numbers.{Number, LimitLaw}
 
 pub record Setting : Type 0 where
