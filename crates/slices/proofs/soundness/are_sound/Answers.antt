@@ -6,5 +6,5 @@ pub returns : goal.returns
 returns c =
     let h = c.args.h in
     let rows = c.args.rows.now in
-    let e = c.test-all.ensures in
+    let e = c.test_all.ensures in
     record { test = e; exactly = ((λ t. are_sound_lem h rows (sym e ∙ t)), λ s. e ∙ sound_are h rows s) }
