@@ -3,8 +3,8 @@ use Rattle.std.proofs.lemmas.Int.{ints, to_z-of_z, to_z_pos}
 use Rattle.record.proofs.Widths.{doubled_small, fits_small}
 use Rattle.record.proofs.row.doubled.Goals as goal
 
-pub overflow-mul-result-2 : goal.overflow-mul-result-2
-overflow-mul-result-2 c =
+pub overflow_mul-result-2 : goal.overflow_mul-result-2
+overflow_mul-result-2 c =
     let f = c.ranges.n in
     let f64 : SFits w64 c.args.n = omega (arith, ints) in
     let l : 2 * c.args.h < 2 ^ 63 = omega arith in

@@ -2,9 +2,9 @@ use Rattle.std.proofs.Common.{rules}
 use Rattle.record.specs.Rows.{numbers_read}
 use Rattle.record.proofs.row.TorqueRow.ask.Goals as goal
 
-pub returns-in-err-ask-sizes : goal.returns-in-err-ask-sizes
+pub returns-in_err-ask_sizes : goal.returns-in_err-ask_sizes
 unfolding numbers_read
-returns-in-err-ask-sizes c = search rules
+returns-in_err-ask_sizes c = search rules
 
 pub returns : goal.returns
 unfolding numbers_read
