@@ -1,5 +1,5 @@
 -- A record that was read is written as the words, and so as the bytes, that it was read from.
-use Rattle.std.proofs.Common.{◌≡◌, ℕ, ◌+◌, ◌^◌, ◌<◌, ◌≤◌, Bool, true, false, cond, eqb, ltb, leb, List, [], ◌∷◌, ◌++◌, length, get_or, nat_abs, Ok, Err, Result, sym, refl, ap, ◌∙◌, subst, append_assoc, add-zero, add_assoc, arith, w32, to_z, of_z}
+use Rattle.std.proofs.Common.{◌≡◌, ℕ, ◌+◌, ◌^◌, ◌<◌, ◌≤◌, Bool, true, cond, eqb, ltb, leb, List, [], ◌∷◌, ◌++◌, length, get_or, nat_abs, Ok, sym, refl, ap, ◌∙◌, subst, add-zero, add_assoc, arith, w32, to_z, of_z}
 use Rattle.std.proofs.lemmas.Bool.{eqb-true, leb-true, ltb-true}
 use Rattle.std.proofs.lemmas.Int.{of_z-to_z}
 use Rattle.words.specs.Words.{be16_at, be32_at, be16, be32, Bytes, slice}
@@ -7,7 +7,6 @@ use Rattle.words.proofs.Slices.{slices, slice_byte, slice16, slice32}
 use Rattle.clause.specs.declared.clause.ClauseWords.{ClauseWords}
 use Rattle.record.specs.declared.sample.Sample.{Sample}
 use Rattle.record.specs.declared.sample.SampleWords.{SampleWords}
-use Rattle.record.specs.declared.sample.SampleFault.{SampleFault}
 use Rattle.record.specs.declared.sample.SampleFault.TheVariants as sample
 use Rattle.record.specs.declared.gap.Gap.{Gap}
 use Rattle.record.specs.declared.gap.GapWords.{GapWords}
@@ -17,11 +16,10 @@ use Rattle.record.specs.declared.row.RowWords.{RowWords}
 use Rattle.record.specs.declared.row.RowPlace.{RowPlace}
 use Rattle.record.specs.declared.row.RowFault.{RowFault}
 use Rattle.record.specs.declared.row.RowFault.TheVariants as row
-use Rattle.clause.specs.Asking.{ask, within}
 use Rattle.clause.specs.Clauses.{clause_read, clause_words, Legal}
 use Rattle.record.specs.Samples.{sample_words_at, sample_read, words_of_sample, sample_bytes}
 use Rattle.record.specs.Gaps.{gap_words_at, gap_read, words_of_gap, gap_bytes}
-use Rattle.record.specs.Rows.{most, small, row_words_at, row_of, sizes_read, weight_read, weighing, weight, numbers_read, row_read, words_of_row, row_bytes}
+use Rattle.record.specs.Rows.{most, small, row_words_at, row_of, sizes_read, weighing, weight, numbers_read, row_read, words_of_row, row_bytes}
 use Rattle.clause.proofs.Questions.{passed, passed_within}
 use Rattle.clause.proofs.ClauseTrips.{clause_back, clause_legal}
 

@@ -1,5 +1,5 @@
 -- Gaps: the record as it lies, the questions asked of it, and its bytes.
-use Rattle.std.specs.Prelude.{ℕ, ◌+◌, List, ◌∷◌, ◌++◌, Ok, Err, Result, ◌==◌, nat_le, slice_index}
+use Rattle.std.specs.Prelude.{ℕ, ◌+◌, List, ◌∷◌, ◌++◌, Ok, Result, ◌==◌, nat_le, slice_index}
 use Rattle.words.specs.Words.{be16_at, be32_at, be16, be32}
 use Rattle.record.specs.declared.gap.Gap.{Gap}
 use Rattle.record.specs.declared.gap.GapWords.{GapWords}

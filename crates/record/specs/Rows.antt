@@ -1,5 +1,5 @@
 -- Torque rows: the record as it lies, the questions asked of it, the row that it stands for, and its bytes.
-use Rattle.std.specs.Prelude.{ℕ, ◌+◌, ◌*◌, Bool, cond, not, ◌&&◌, List, ◌++◌, ℤ, pos, ◌-ℤ◌, ◌*ℤ◌, Ok, Err, Result, ◌==◌, int_lt, nat_le, nat_lt, unsigned_abs}
+use Rattle.std.specs.Prelude.{ℕ, ◌+◌, ◌*◌, Bool, cond, not, ◌&&◌, List, ◌++◌, ℤ, pos, ◌-ℤ◌, ◌*ℤ◌, Ok, Result, ◌==◌, int_lt, nat_le, nat_lt, unsigned_abs}
 use Rattle.std.proofs.Common.{to_z, of_z}
 use Rattle.std.specs.Int.{w32}
 use Rattle.words.specs.Words.{be16_at, be32_at, be16, be32}

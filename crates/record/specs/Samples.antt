@@ -1,5 +1,5 @@
 -- Samples: the record as it lies, the questions asked of it, the sample that it stands for, and its bytes.
-use Rattle.std.specs.Prelude.{ℕ, ◌+◌, Bool, true, cond, List, ◌∷◌, ◌++◌, Ok, Err, Result, ◌==◌, nat_le, slice_index}
+use Rattle.std.specs.Prelude.{ℕ, ◌+◌, Bool, true, cond, List, ◌∷◌, ◌++◌, Ok, Result, ◌==◌, nat_le, slice_index}
 use Rattle.std.proofs.Common.{to_z, of_z}
 use Rattle.std.specs.Int.{w32}
 use Rattle.words.specs.Words.{be32_at, be32}
