@@ -9,12 +9,12 @@ pub returns : goal.returns
 returns g c =
     let rank = g.G.Grade.rank in
     let cells = c.args.cells.now in
-    let i = c.next-sample-at.result in
+    let i = c.next_sample-at.result in
     let v = c.visit-finding.ensures in
     record {
-      at = c.next-sample-at.ensures.is;
-      outcome = c.outcome-of.ensures.is ∙ ap (λ f. outcome_from (length cells) f c.args.sweep) v.finding;
+      at = c.next_sample-at.ensures.is;
+      outcome = c.outcome_of.ensures.is ∙ ap (λ f. outcome_from (length cells) f c.args.sweep) v.finding;
       lowerings = c.lowerings.ensures ∙ ap lowering v.finding;
       sheet = v.sheet ∙ ap (λ f. lowered f i (ranked_all rank cells)) v.finding;
-      going = c.outcome-of.ensures.going;
+      going = c.outcome_of.ensures.going;
     }
