@@ -1,11 +1,10 @@
 -- A cell that the code reads and writes, as ranks.
-use Rattle.std.proofs.Common.{◌≡◌, ℕ, ◌<◌, ◌≤◌, List, map, length, get_or, take, set, ℤ, pos, negsuc, sym, refl, ap, ◌∙◌, arith}
+use Rattle.std.proofs.Common.{◌≡◌, ℕ, ◌<◌, ◌≤◌, List, length, get_or, take, set, ℤ, pos, negsuc, sym, ap, ◌∙◌, arith}
 use Rattle.std.proofs.lemmas.List.{get_or-map, map-set, get_or-take, length-take-le}
 use Rattle.std.proofs.lemmas.Bool.Decides.{nat_tests}
 use Rattle.grade.specs.declared.cell.Cell.{Cell}
 use Rattle.grade.specs.Ranks.{ranked, ranked_all, ranks}
 use Rattle.grade.proofs.Ranking.{values_ranked}
-use Rattle.runs.specs.declared.finding.Finding.{Finding}
 use Rattle.runs.specs.declared.finding.Finding.TheVariants.{Keeps, Lowers, Clashes}
 use Rattle.limit.specs.Numbers.{Number}
 use Rattle.runs.specs.Sheets.{blank, cell, values, with_value}

@@ -1,5 +1,5 @@
 -- A visit to a sample of a sheet, whatever its make.
-use Rattle.std.specs.Prelude.{◌≡◌, ℕ, List, ℤ, slice_set}
+use Rattle.std.specs.Prelude.{◌≡◌, ℕ, List, slice_set}
 use Rattle.grade.specs.declared.cell.Cell.{Cell}
 use Rattle.grade.specs.Ranks.{ranked_all}
 use Rattle.runs.specs.declared.finding.Finding.{Finding}

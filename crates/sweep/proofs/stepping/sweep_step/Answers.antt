@@ -1,4 +1,4 @@
-use Rattle.std.proofs.Common.{length, sym, ap, ◌∙◌}
+use Rattle.std.proofs.Common.{length, ap, ◌∙◌}
 use Rattle.grade.specs.Ranks.{ranked_all}
 use Rattle.runs.specs.Evaluations.{lowering}
 use Rattle.sweep.specs.Outcomes.{outcome_from}
