@@ -25,6 +25,10 @@ pub record WithinStepsAt (steps : List Step) (p : Profile) (i g : ℕ) : Type 0 
 abbrev pub before : ℕ → List Step → Profile → ℕ → ℤ
 before top steps p i = cond (nat_lt 0 i && nat_le i (length steps)) (pos (min (rank p (i - 1) + (slice_index_or steps (i - 1) no_step).up) top)) (pos top)
 
+-- the same where sample i is there; a missing sample is bounded by nothing
+abbrev pub before_allows : ℕ → List Step → Profile → ℕ → ℤ
+before_allows top steps p i = cond (nat_lt i (length p)) (before top steps p i) (pos top)
+
 -- the sample after i, raised by down of the gap between
 abbrev pub after : ℕ → List Step → Profile → ℕ → ℤ
 after top steps p i = cond (nat_lt i (length steps) && nat_lt (i + 1) (length p)) (pos (min (rank p (i + 1) + (slice_index_or steps i no_step).down) top)) (pos top)

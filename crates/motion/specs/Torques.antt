@@ -6,7 +6,7 @@ use Rattle.grade.specs.Tops.{speed_top}
 use Rattle.motion.specs.declared.rows.Row.{Row}
 use Rattle.motion.specs.declared.triple.Triple.{Triple}
 use Rattle.motion.specs.Floors.{floored}
-use Rattle.motion.specs.Rows.{weight, row_size}
+use Rattle.motion.specs.Rows.{weight, row_size, row_at}
 
 -- 2h × (hi − g) and 2h × (g − lo): the room that g leaves above and below
 abbrev pub room_above_of : ℕ → Row → ℤ
@@ -42,6 +42,10 @@ allows_before h p i r = cond (r.gap == i && nat_lt (i + 1) (length p)) (bound (o
 
 abbrev pub allows : ℕ → Profile → ℕ → Row → ℤ
 allows h p i r = int_min (allows_after h p i r) (allows_before h p i r)
+
+-- what row k of the rows allows; a missing row bounds nothing
+abbrev pub row_number : ℕ → List Row → ℕ → Profile → ℕ → ℤ
+row_number h rows k p i = cond (nat_lt k (length rows)) (allows h p i (row_at rows k)) (pos speed_top)
 
 -- the least over all rows
 abbrev pub least : (Row → ℤ) → List Row → ℤ

@@ -14,8 +14,8 @@ mod triple;
 
 pub use average::{Average, average_greatest, average_kept_exactly};
 pub use offsets::Offsets;
-pub use ramp::{Ramp, ramp_greatest, ramp_kept_exactly};
+pub use ramp::{Ramp, ramp_after, ramp_before, ramp_greatest, ramp_kept_exactly};
 pub use rate::rate_is_no_limit;
 pub use rows::{Row, Rows};
 pub use steps::{Step, Steps};
-pub use torque::{Torque, torque_greatest, torque_kept_exactly};
+pub use torque::{Torque, row_bound, torque_greatest, torque_kept_exactly};

@@ -2,7 +2,7 @@
 ghost use Rattle.std.specs.Prelude.{◌≡◌, ◌<◌, length, pos};
 ghost use Rattle.grade.specs.Ranks.{ranks};
 ghost use Rattle.limit.specs.Numbers.{KeptExactly, Greatest};
-ghost use Rattle.motion.specs.Ramps.{before, after, ramp, WithinSteps, WithinStepsAt};
+ghost use Rattle.motion.specs.Ramps.{before, before_allows, after, ramp, WithinSteps, WithinStepsAt};
 ghost use Rattle.motion.specs.RampsLemmas.{ramp_low, ramp_high, ramp_outside, ramp_mono};
 ghost use Rattle.grade.proofs.Ranking.{at_most_everywhere};
 
@@ -34,6 +34,28 @@ impl<G: Raisable, S: Steps> Limit<G> for Ramp<S> {
         let risen = from_before(&self.steps, cells, at);
         let fallen = from_after(&self.steps, cells, at);
         Some(lower(risen, fallen))
+    }
+}
+
+// What the sample before allows: its grade, raised by up of the gap between; the top where there is no such sample.
+pub fn ramp_before<G: Raisable, S: Steps>(limit: &Ramp<S>, cells: &[Cell<G>], at: usize) -> G
+    ensures { pos (G.Grade.rank result) ≡ before_allows G.Grade.top (S.Steps.steps limit.now.steps) (ranks G.Grade.rank cells.now) at }
+{
+    if at < samples(cells) {
+        from_before(&limit.steps, cells, at)
+    } else {
+        unbounded()
+    }
+}
+
+// What the sample after allows: its grade, raised by down of the gap between; the top where there is no such sample.
+pub fn ramp_after<G: Raisable, S: Steps>(limit: &Ramp<S>, cells: &[Cell<G>], at: usize) -> G
+    ensures { pos (G.Grade.rank result) ≡ after G.Grade.top (S.Steps.steps limit.now.steps) (ranks G.Grade.rank cells.now) at }
+{
+    if at < samples(cells) {
+        from_after(&limit.steps, cells, at)
+    } else {
+        unbounded()
     }
 }
 

@@ -5,7 +5,7 @@ ghost use Rattle.grade.specs.Ranks.{ranks, speed_rank};
 ghost use Rattle.grade.specs.Tops.{speed_top};
 ghost use Rattle.limit.specs.Numbers.{number_of, KeptExactly, Greatest};
 ghost use Rattle.motion.specs.Rows.{row_at, Sound, WithinTorque, WithinTorqueAt};
-ghost use Rattle.motion.specs.Torques.{allows_after, allows_before, allows, torque};
+ghost use Rattle.motion.specs.Torques.{allows_after, allows_before, allows, row_number, torque};
 ghost use Rattle.motion.specs.TorquesLemmas.{torque_low, torque_high, torque_outside, torque_mono};
 ghost use Rattle.grade.proofs.Ranking.{at_most_everywhere};
 
@@ -45,6 +45,23 @@ impl<R: Rows> Limit<Speed> for Torque<R> {
             k += 1;
         }
         Some(least)
+    }
+}
+
+// What one row allows, by its number; the top where there is no such row.
+pub fn row_bound<R: Rows>(
+    limit: &Torque<R>,
+    row: usize,
+    cells: &[Cell<Speed>],
+    at: usize,
+) -> Option<Speed>
+    ensures { number_of speed_rank result ≡ row_number (R.Rows.spacing limit.now.rows) (R.Rows.rows limit.now.rows) row (ranks speed_rank cells.now) at }
+{
+    let rows = &limit.rows;
+    if row < rows.len() {
+        beside(rows.spacing(), rows.row(row), cells, at)
+    } else {
+        Some(unbounded())
     }
 }
 
