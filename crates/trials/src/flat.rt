@@ -1,5 +1,5 @@
 // A limit by another maker: the same grade at every sample, whatever the others are.
-ghost use Rattle.std.specs.Prelude.{length, pos, if_then_else_, nat_lt};
+ghost use Rattle.std.specs.Prelude.{length, pos, cond, nat_lt};
 ghost use Rattle.std.proofs.Common.{rules};
 
 use grade::{Cell, Grade};
@@ -11,7 +11,7 @@ pub struct Flat<G> {
 }
 
 impl<G: Grade> Limit<G> for Flat<G> {
-    ghost number = { λ l p i. (if nat_lt i (length p) then pos (G.Grade.rank l.most) else pos G.Grade.top) };
+    ghost number = { λ l p i. cond (nat_lt i (length p)) (pos (G.Grade.rank l.most)) (pos G.Grade.top) };
 
     ghost low = { Prim.search rules };
 
