@@ -10,14 +10,14 @@ pub returns-in-Cut : goal.returns-in-Cut
 returns-in-Cut c =
     let n = c.args.self.now.samples.count in
     record {
-      is = λ a b. c.ask-change.ensures.is a b ∙ ap (λ x. verdict (setting n a b) x c.args.self.now.stage) (sym c.in-Cut.is);
-      range = subst (λ x. IfOk c.ask-change.result (λ _. InRange n x)) (sym c.in-Cut.is) c.ask-change.ensures.within;
+      is = λ a b. c.ask_change.ensures.is a b ∙ ap (λ x. verdict (setting n a b) x c.args.self.now.stage) (sym c.in-Cut.is);
+      range = subst (λ x. IfOk c.ask_change.result (λ _. InRange n x)) (sym c.in-Cut.is) c.ask_change.ensures.within;
     }
 
 pub returns-in-Lift : goal.returns-in-Lift
 returns-in-Lift c =
     let n = c.args.self.now.samples.count in
     record {
-      is = λ a b. c.ask-change-in-Lift.ensures.is a b ∙ ap (λ x. verdict (setting n a b) x c.args.self.now.stage) (sym c.in-Lift.is);
-      range = subst (λ x. IfOk c.ask-change-in-Lift.result (λ _. InRange n x)) (sym c.in-Lift.is) c.ask-change-in-Lift.ensures.within;
+      is = λ a b. c.ask_change-in-Lift.ensures.is a b ∙ ap (λ x. verdict (setting n a b) x c.args.self.now.stage) (sym c.in-Lift.is);
+      range = subst (λ x. IfOk c.ask_change-in-Lift.result (λ _. InRange n x)) (sym c.in-Lift.is) c.ask_change-in-Lift.ensures.within;
     }

@@ -14,14 +14,14 @@ use Rattle.job.proofs.Cuts.{cuts}
 use Rattle.job.proofs.Lawful.{promised, promised_refused}
 use Rattle.job.proofs.job.Job.class_cut.Goals as goal
 
-pub returns-in-err-ask : goal.returns-in-err-ask
-returns-in-err-ask c =
-    let r = c.from-residual.result in
-    let p = err_from_is_err_and r c.from-residual.ensures.1 in
+pub returns-in_err-ask : goal.returns-in_err-ask
+returns-in_err-ask c =
+    let r = c.from_residual.result in
+    let p = err_from_is_err_and r c.from_residual.ensures.1 in
     record {
       lent = refl;
-      promises = promised_refused (Cut Classes c.args.sample c.args.value) c.args.self.now c.args.classes.now.cells.now c.args.speeds.now.cells.now (done r) c.in-err-ask.field-0.0
-          (ap done (p.1 ∙ ap Err p.2)) c.in-err-ask.ensures.is;
+      promises = promised_refused (Cut Classes c.args.sample c.args.value) c.args.self.now c.args.classes.now.cells.now c.args.speeds.now.cells.now (done r) c.in_err-ask.field-0.0
+          (ap done (p.1 ∙ ap Err p.2)) c.in_err-ask.ensures.is;
     }
 
 pub returns : goal.returns
@@ -33,13 +33,13 @@ returns c =
     let n = j.samples.count - 0 in
     let i = c.args.sample in
     let v = c.args.value in
-    let room = c.in-ok-ask.ensures.room in
+    let room = c.in_ok-ask.ensures.room in
     let S : Sheets = sheets_of (take n classes) (take n speeds) in
-    let S' : Sheets = sheets_of c.cut-cell-cutting.new.cells (take n speeds) in
-    let acted-is = cuts Classes i v j.stage j.sweep S S' _ c.cut-cell-cutting.result c.cut-cell-cutting.ensures.which (ap (λ s. record { classes = s; speeds = S.speeds }) c.cut-cell-cutting.ensures.sheet) (c.after-cut.ensures.recut S') in
+    let S' : Sheets = sheets_of c.cut_cell-cutting.new.cells (take n speeds) in
+    let acted-is = cuts Classes i v j.stage j.sweep S S' _ c.cut_cell-cutting.result c.cut_cell-cutting.ensures.which (ap (λ s. record { classes = s; speeds = S.speeds }) c.cut_cell-cutting.ensures.sheet) (c.after_cut.ensures.recut S') in
     record {
       lent = refl;
       promises = promised (Cut Classes i v) (held j classes speeds) _ Done
-          (λ a b. acts_classes a b (Cut Classes i v) j classes speeds (c.in-ok-ask.ensures.is a b) room.0 room.1 n (omega arith) c.after-cut.new.self c.after-cut.ensures.samples Done
-          c.cut-cell-cutting.new.cells (c.cut-cell-cutting.auto.cells ∙ length-take-le n classes (omega (arith, room.0))) acted-is refl);
+          (λ a b. acts_classes a b (Cut Classes i v) j classes speeds (c.in_ok-ask.ensures.is a b) room.0 room.1 n (omega arith) c.after_cut.new.self c.after_cut.ensures.samples Done
+          c.cut_cell-cutting.new.cells (c.cut_cell-cutting.auto.cells ∙ length-take-le n classes (omega (arith, room.0))) acted-is refl);
     }

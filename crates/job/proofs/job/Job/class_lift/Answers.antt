@@ -14,14 +14,14 @@ use Rattle.job.proofs.Cuts.{lifts}
 use Rattle.job.proofs.Lawful.{promised, promised_refused}
 use Rattle.job.proofs.job.Job.class_lift.Goals as goal
 
-pub returns-in-err-ask : goal.returns-in-err-ask
-returns-in-err-ask c =
-    let r = c.from-residual.result in
-    let p = err_from_is_err_and r c.from-residual.ensures.1 in
+pub returns-in_err-ask : goal.returns-in_err-ask
+returns-in_err-ask c =
+    let r = c.from_residual.result in
+    let p = err_from_is_err_and r c.from_residual.ensures.1 in
     record {
       lent = refl;
-      promises = promised_refused (Lift Classes c.args.sample c.args.value) c.args.self.now c.args.classes.now.cells.now c.args.speeds.now.cells.now (done r) c.in-err-ask.field-0.0
-          (ap done (p.1 ∙ ap Err p.2)) c.in-err-ask.ensures.is;
+      promises = promised_refused (Lift Classes c.args.sample c.args.value) c.args.self.now c.args.classes.now.cells.now c.args.speeds.now.cells.now (done r) c.in_err-ask.field-0.0
+          (ap done (p.1 ∙ ap Err p.2)) c.in_err-ask.ensures.is;
     }
 
 pub returns : goal.returns
@@ -33,13 +33,13 @@ returns c =
     let n = j.samples.count - 0 in
     let i = c.args.sample in
     let v = c.args.value in
-    let room = c.in-ok-ask.ensures.room in
+    let room = c.in_ok-ask.ensures.room in
     let S : Sheets = sheets_of (take n classes) (take n speeds) in
-    let S' : Sheets = sheets_of c.lift-cell-above.new.cells (take n speeds) in
-    let acted-is = lifts Classes i v j.stage j.sweep S S' _ c.lift-cell-above.result c.lift-cell-above.ensures.which (ap (λ s. record { classes = s; speeds = S.speeds }) c.lift-cell-above.ensures.sheet) (c.after-lift.ensures.relift S') in
+    let S' : Sheets = sheets_of c.lift_cell-above.new.cells (take n speeds) in
+    let acted-is = lifts Classes i v j.stage j.sweep S S' _ c.lift_cell-above.result c.lift_cell-above.ensures.which (ap (λ s. record { classes = s; speeds = S.speeds }) c.lift_cell-above.ensures.sheet) (c.after_lift.ensures.relift S') in
     record {
       lent = refl;
       promises = promised (Lift Classes i v) (held j classes speeds) _ Done
-          (λ a b. acts_classes a b (Lift Classes i v) j classes speeds (c.in-ok-ask.ensures.is a b) room.0 room.1 n (omega arith) c.after-lift.new.self c.after-lift.ensures.samples Done
-          c.lift-cell-above.new.cells (c.lift-cell-above.auto.cells ∙ length-take-le n classes (omega (arith, room.0))) acted-is refl);
+          (λ a b. acts_classes a b (Lift Classes i v) j classes speeds (c.in_ok-ask.ensures.is a b) room.0 room.1 n (omega arith) c.after_lift.new.self c.after_lift.ensures.samples Done
+          c.lift_cell-above.new.cells (c.lift_cell-above.auto.cells ∙ length-take-le n classes (omega (arith, room.0))) acted-is refl);
     }

@@ -12,21 +12,21 @@ use Rattle.job.proofs.Acting.{staying, does}
 use Rattle.job.proofs.Lawful.{promised, promised_refused}
 use Rattle.job.proofs.job.Job.look.Goals as goal
 
-pub returns-in-err-ask : goal.returns-in-err-ask
-returns-in-err-ask c =
-    let r = c.from-residual.result in
-    let p = err_from_is_err_and r c.from-residual.ensures.1 in
-    promised_refused (Look c.args.sample) c.args.self.now c.args.classes.now.cells.now c.args.speeds.now.cells.now (seen r) c.in-err-ask.field-0.0
-    (ap seen (p.1 ∙ ap Err p.2)) c.in-err-ask.ensures.is
+pub returns-in_err-ask : goal.returns-in_err-ask
+returns-in_err-ask c =
+    let r = c.from_residual.result in
+    let p = err_from_is_err_and r c.from_residual.ensures.1 in
+    promised_refused (Look c.args.sample) c.args.self.now c.args.classes.now.cells.now c.args.speeds.now.cells.now (seen r) c.in_err-ask.field-0.0
+    (ap seen (p.1 ∙ ap Err p.2)) c.in_err-ask.ensures.is
 
 pub returns : goal.returns
 unfolding acted replied
 returns c =
     let i = c.args.sample in
     let h : Held = held c.args.self.now c.args.classes.now.cells.now c.args.speeds.now.cells.now in
-    let room = c.in-ok-ask.ensures.room in
-    let below = c.in-ok-ask.ensures.range in
-    let class = front_value class_rank h.classes i h.job.samples.count c.index-class-cells-sample.result below room.0 in
-    let speed = front_value speed_rank h.speeds i h.job.samples.count c.index-speed-cells-sample.result below room.1 in
+    let room = c.in_ok-ask.ensures.room in
+    let below = c.in_ok-ask.ensures.range in
+    let class = front_value class_rank h.classes i h.job.samples.count c.index-class_cells-sample.result below room.0 in
+    let speed = front_value speed_rank h.speeds i h.job.samples.count c.index-speed_cells-sample.result below room.1 in
     let x : Answer = Seen h.job.stage c.rank.result c.rank-2.result in
-    promised (Look i) h h x (λ a b. does a b (Look i) h.job h.classes h.speeds (c.in-ok-ask.ensures.is a b) h x (staying (whole_of h) h refl) (cc))
+    promised (Look i) h h x (λ a b. does a b (Look i) h.job h.classes h.speeds (c.in_ok-ask.ensures.is a b) h x (staying (whole_of h) h refl) (cc))

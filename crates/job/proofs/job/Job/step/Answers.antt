@@ -12,11 +12,11 @@ pub returns-in-Working-Classes : goal.returns-in-Working-Classes
 unfolding finding
 returns-in-Working-Classes g c =
     let at-work : c.args.self.now.stage ≡ Working Classes = search rules in
-    let σ : Setting = setting c.args.self.now.samples.count (g.C.Limit.number c.args.class-limit.now) (g.S.Limit.number c.args.speed-limit.now) in
+    let σ : Setting = setting c.args.self.now.samples.count (g.C.Limit.number c.args.class_limit.now) (g.S.Limit.number c.args.speed_limit.now) in
     let w = c.args.self.now.sweep in
     let S : Sheets = sheets_of c.args.classes.now c.args.speeds.now in
-    let S' : Sheets = sheets_of c.sweep-step-step.new.cells c.args.speeds.now in
-    let v = c.sweep-step-step.ensures in
+    let S' : Sheets = sheets_of c.sweep_step-step.new.cells c.args.speeds.now in
+    let v = c.sweep_step-step.ensures in
     record {
       samples = c.follow.ensures.samples;
       stepped = steps σ Classes _ w S S' _ _ at-work c.requires.0 v.at _ _ v.outcome (ap (λ s. record { classes = s; speeds = S.speeds }) v.sheet) (c.follow.ensures.follows (σ.number Classes) (σ.number Speeds));
@@ -27,11 +27,11 @@ pub returns-in-Working-Speeds : goal.returns-in-Working-Speeds
 unfolding finding
 returns-in-Working-Speeds g c =
     let at-work : c.args.self.now.stage ≡ Working Speeds = search rules in
-    let σ : Setting = setting c.args.self.now.samples.count (g.C.Limit.number c.args.class-limit.now) (g.S.Limit.number c.args.speed-limit.now) in
+    let σ : Setting = setting c.args.self.now.samples.count (g.C.Limit.number c.args.class_limit.now) (g.S.Limit.number c.args.speed_limit.now) in
     let w = c.args.self.now.sweep in
     let S : Sheets = sheets_of c.args.classes.now c.args.speeds.now in
-    let S' : Sheets = sheets_of c.args.classes.now c.sweep-step-step-in-Working-Speeds.new.cells in
-    let v = c.sweep-step-step-in-Working-Speeds.ensures in
+    let S' : Sheets = sheets_of c.args.classes.now c.sweep_step-step-in-Working-Speeds.new.cells in
+    let v = c.sweep_step-step-in-Working-Speeds.ensures in
     record {
       samples = c.follow-in-Working-Speeds.ensures.samples;
       stepped = steps σ Speeds _ w S S' _ _ at-work c.requires.1 v.at _ _ v.outcome (ap (λ s. record { classes = S.classes; speeds = s }) v.sheet) (c.follow-in-Working-Speeds.ensures.follows (σ.number Classes) (σ.number Speeds));

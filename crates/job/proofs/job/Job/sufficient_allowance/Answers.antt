@@ -8,6 +8,6 @@ pub returns : goal.returns
 returns c =
     let n = c.args.self.now.samples.count in
     let h : Held = held c.args.self.now c.args.classes.now.cells.now c.args.speeds.now.cells.now in
-    let classes = front_sum class_rank h.classes (n - 0) n c.total-class-sum.result (omega arith) c.total-class-sum.ensures.sum in
-    let speeds = front_sum speed_rank h.speeds (n - 0) n c.total-speed-sum.result (omega arith) c.total-speed-sum.ensures.sum in
-    suffices h _ (sym c.in-ok-ask-room.ensures.is) (product_is n _ _ _ _ _ classes speeds refl)
+    let classes = front_sum class_rank h.classes (n - 0) n c.total-class_sum.result (omega arith) c.total-class_sum.ensures.sum in
+    let speeds = front_sum speed_rank h.speeds (n - 0) n c.total-speed_sum.result (omega arith) c.total-speed_sum.ensures.sum in
+    suffices h _ (sym c.in_ok-ask_room.ensures.is) (product_is n _ _ _ _ _ classes speeds refl)

@@ -7,7 +7,7 @@ use Rattle.job.proofs.job.Job.work.Given as goal
 -- what is left of the allowance leads from here to where the whole of it leads from the start
 abbrev pub invariant-loop-evaluations : goal.invariant-loop-evaluations
 invariant-loop-evaluations g l =
-    let σ = setting l.initial.self.samples.count (g.C.Limit.number l.class-limit) (g.S.Limit.number l.speed-limit) in
+    let σ = setting l.initial.self.samples.count (g.C.Limit.number l.class_limit) (g.S.Limit.number l.speed_limit) in
     (l.evaluations ≤ l.allowance)
     × (l.lowerings ≤ l.evaluations)
     × (l.self.samples ≡ l.initial.self.samples)
