@@ -6,23 +6,23 @@ use Rattle.frame.proofs.Accepted.{header_facts}
 use Rattle.frame.proofs.Whole.{no_header, no_records, all_records}
 use Rattle.frame.proofs.reading.read.Goals as goal
 
-pub returns-in-err-header : goal.returns-in-err-header
-returns-in-err-header c =
-    let p = err_from_is_err_and c.from-residual.result c.from-residual.ensures.1 in
-    let fault = c.in-err-header.field-0.0 in
-    p.1 ∙ ap (λ (f : FrameFault). Err f) p.2 ∙ sym (no_header c.args.bytes.now fault (sym c.in-err-header.ensures))
+pub returns-in_err-header : goal.returns-in_err-header
+returns-in_err-header c =
+    let p = err_from_is_err_and c.from_residual.result c.from_residual.ensures.1 in
+    let fault = c.in_err-header.field-0.0 in
+    p.1 ∙ ap (λ (f : FrameFault). Err f) p.2 ∙ sym (no_header c.args.bytes.now fault (sym c.in_err-header.ensures))
 
-pub returns-in-err-ask-records : goal.returns-in-err-ask-records
-returns-in-err-ask-records c =
-    let p = err_from_is_err_and c.from-residual-in-err-ask-records.result c.from-residual-in-err-ask-records.ensures.1 in
-    let fault = c.in-err-ask-records.field-0.0 in
+pub returns-in_err-ask_records : goal.returns-in_err-ask_records
+returns-in_err-ask_records c =
+    let p = err_from_is_err_and c.from_residual-in_err-ask_records.result c.from_residual-in_err-ask_records.ensures.1 in
+    let fault = c.in_err-ask_records.field-0.0 in
     p.1 ∙ ap (λ (f : FrameFault). Err f) p.2
-    ∙ sym (no_records c.args.bytes.now c.in-ok-header.header fault (sym c.in-ok-header.ensures) (sym c.in-err-ask-records.ensures))
+    ∙ sym (no_records c.args.bytes.now c.in_ok-header.header fault (sym c.in_ok-header.ensures) (sym c.in_err-ask_records.ensures))
 
 pub returns : goal.returns
-returns c = sym (all_records c.args.bytes.now c.in-ok-header.header (sym c.in-ok-header.ensures) (sym c.in-ok-ask-records.ensures))
+returns c = sym (all_records c.args.bytes.now c.in_ok-header.header (sym c.in_ok-header.ensures) (sym c.in_ok-ask_records.ensures))
 
-pub invariant-of-ask-records : goal.invariant-of-ask-records
-invariant-of-ask-records c =
-    let known = header_facts c.args.bytes.now c.in-ok-header.header (sym c.in-ok-header.ensures) in
-    (known.many, (known.rowed, (le_of_eq (sym known.size), tt)))
+pub invariant_of-ask_records : goal.invariant_of-ask_records
+invariant_of-ask_records c =
+    let known = header_facts c.args.bytes.now c.in_ok-header.header (sym c.in_ok-header.ensures) in
+    record { samples = known.many; rows = known.rowed; long = le_of_eq (sym known.size) }

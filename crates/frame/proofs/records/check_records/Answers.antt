@@ -11,4 +11,4 @@ returns-in-Err g c =
 pub loop-index-preserved : goal.loop-index-preserved
 loop-index-preserved g c =
     let records = c.args.records.now in
-    sym (at_ok (λ (i : ℕ). g.R.Records.start records + g.R.Records.size * i) (g.R.Records.answer records) (g.R.Records.count records) c.loop-index.index (omega arith) c.in-default.field-0 (sym c.in-default.ensures)) ∙ c.loop-index.invariant
+    sym (at_ok (λ (i : ℕ). g.R.Records.start records + g.R.Records.size * i) (g.R.Records.answer records) (g.R.Records.count records) c.loop-index.index (omega arith) c.in_default.field-0 (sym c.in_default.ensures)) ∙ c.loop-index.invariant

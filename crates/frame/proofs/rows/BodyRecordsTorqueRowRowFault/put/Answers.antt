@@ -8,4 +8,4 @@ pub returns : goal.returns
 returns c =
     let body = c.args.self.now in
     let again = row_again body.bytes.now body.header c.args.index c.requires.bytes c.in-Ok.row (omega (arith, body.long)) (sym c.in-Ok.ensures) in
-    c.put.ensures ∙ ap (λ (z : ℕ). written c.args.out.now z c.bytes.result) c.row-offset.ensures ∙ ap (λ (z : List ℕ). written c.args.out.now (rows_at body.header.samples + 24 * c.args.index) z) (c.bytes.ensures ∙ again)
+    c.put.ensures ∙ ap (λ (z : ℕ). written c.args.out.now z c.bytes.result) c.row_offset.ensures ∙ ap (λ (z : List ℕ). written c.args.out.now (rows_at body.header.samples + 24 * c.args.index) z) (c.bytes.ensures ∙ again)

@@ -19,10 +19,10 @@ found bs cs h k at i w e cs-is is k-is l at-is w_is =
     ∙ ap (λ (x : ℕ). Some (gap_words_at bs x).gap) (at-is ∙ ap (λ (x : Header). gaps_at x.samples + 12 * i) is)
     ∙ gap_is bs e i (subst (λ (x : ℕ). i < x) (k-is ∙ ap (λ (x : Header). x.samples - 1) is) l)
 
-pub returns-then-index-saturating-sub : goal.returns-then-index-saturating-sub
-returns-then-index-saturating-sub c = past c.args.self.now.bytes.now c.body-body.result.header c.saturating-sub.result c.args.index c.args.self.now.sound c.body-body.ensures.header c.saturating-sub.ensures c.if-index-saturating-sub.true
+pub returns-then-index-saturating_sub : goal.returns-then-index-saturating_sub
+returns-then-index-saturating_sub c = past c.args.self.now.bytes.now c.body-body.result.header c.saturating_sub.result c.args.index c.args.self.now.sound c.body-body.ensures.header c.saturating_sub.ensures c.if-index-saturating_sub.true
 
 pub returns : goal.returns
 returns c =
-    found c.args.self.now.bytes.now c.body-body.result.bytes.now c.body-body.result.header c.saturating-sub.result c.gap-offset.result c.args.index c.at.result
-    c.args.self.now.sound c.body-body.ensures.bytes c.body-body.ensures.header c.saturating-sub.ensures c.if-index-saturating-sub.false c.gap-offset.ensures c.at.ensures
+    found c.args.self.now.bytes.now c.body-body.result.bytes.now c.body-body.result.header c.saturating_sub.result c.gap_offset.result c.args.index c.at.result
+    c.args.self.now.sound c.body-body.ensures.bytes c.body-body.ensures.header c.saturating_sub.ensures c.if-index-saturating_sub.false c.gap_offset.ensures c.at.ensures

@@ -25,4 +25,4 @@ returns-then-index-body c = offset_past c.args.self.now.bytes.now c.args.self.no
 pub returns : goal.returns
 returns c =
     found c.args.self.now.bytes.now c.body-body.result.bytes.now c.body-body.result.header c.args.index c.be32.result _
-    c.args.self.now.sound c.body-body.ensures.bytes c.body-body.ensures.header c.if-index-body.false c.be32.ensures c.be32.type-inv c.cast-signed.ensures
+    c.args.self.now.sound c.body-body.ensures.bytes c.body-body.ensures.header c.if-index-body.false c.be32.ensures c.be32.type_inv c.cast_signed.ensures

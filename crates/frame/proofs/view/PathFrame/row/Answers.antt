@@ -23,5 +23,5 @@ returns-then-index-body c = row_past c.args.self.now.bytes.now c.args.self.now.s
 
 pub returns : goal.returns
 returns c =
-    found c.args.self.now.bytes.now c.body-body.result.bytes.now c.body-body.result.header c.row-offset.result c.args.index c.at.result _
-    c.args.self.now.sound c.body-body.ensures.bytes c.body-body.ensures.header c.if-index-body.false c.row-offset.ensures c.at.ensures c.row.ensures
+    found c.args.self.now.bytes.now c.body-body.result.bytes.now c.body-body.result.header c.row_offset.result c.args.index c.at.result _
+    c.args.self.now.sound c.body-body.ensures.bytes c.body-body.ensures.header c.if-index-body.false c.row_offset.ensures c.at.ensures c.row.ensures
