@@ -1,5 +1,5 @@
 -- What is known of an accepted frame: its header, its size and its records.
-use Rattle.std.proofs.Common.{◌≡◌, ℕ, zero, suc, ◌+◌, ◌-◌, ◌<◌, ◌≤◌, Bool, true, false, cond, eqb, ltb, leb, List, [], ◌∷◌, length, get_or, is_ok, Some, None, Ok, Err, Option, Result, sym, refl, ap, ◌∙◌, subst, arith}
+use Rattle.std.proofs.Common.{◌≡◌, ℕ, zero, suc, ◌+◌, ◌-◌, ◌≤◌, Bool, true, cond, eqb, ltb, leb, List, [], ◌∷◌, length, get_or, is_ok, None, Ok, Err, Result, sym, refl, ap, ◌∙◌, subst, arith}
 use Rattle.std.proofs.lemmas.Bool.{leb-true, eqb-true, lt-ltb, le-ltb, cond-true, cond-false}
 use Rattle.std.proofs.lemmas.Bool.Decides.{nat_tests}
 use Rattle.words.specs.Words.{be32_at}
@@ -10,7 +10,7 @@ use Rattle.frame.specs.declared.fault.FrameFault.{FrameFault}
 use Rattle.frame.specs.declared.fault.FrameFault.TheVariants as frame
 use Rattle.frame.specs.Layout.{frame_size_of}
 use Rattle.frame.specs.Records.{fault, records_read, ok_of, record_at_of}
-use Rattle.frame.specs.Paths.{Path, header_at, fields_read, header_read, path_read, accepted}
+use Rattle.frame.specs.Paths.{Path, header_at, header_read, path_read, accepted}
 use Rattle.frame.specs.Views.{shown, path_of, nth}
 use Rattle.frame.proofs.Whole.{Held, read_whole}
 

@@ -1,9 +1,9 @@
 -- An accepted frame's header and records, written again, are its bytes.
-use Rattle.std.proofs.Common.{◌≡◌, ℕ, zero, suc, ◌+◌, ◌-◌, ◌*◌, ◌<◌, ◌≤◌, true, cond, eqb, leb, List, [], ◌∷◌, ◌++◌, length, get_or, take, drop, is_ok, Ok, Err, Result, sym, refl, ap, ◌∙◌, subst, add-zero, add_assoc, mul-zero, mul-one, mul-add, arith}
+use Rattle.std.proofs.Common.{◌≡◌, ℕ, zero, suc, ◌+◌, ◌-◌, ◌*◌, ◌<◌, ◌≤◌, true, cond, eqb, leb, List, [], ◌∷◌, ◌++◌, length, get_or, drop, is_ok, Ok, Err, Result, sym, refl, ap, ◌∙◌, subst, add_assoc, mul-zero, mul-one, mul-add, arith}
 use Rattle.std.proofs.lemmas.List.{take_all}
 use Rattle.std.proofs.lemmas.Bool.{eqb-true, le-leb, lt-leb, cond-true, cond-false}
 use Rattle.std.specs.List.{flat_map}
-use Rattle.words.specs.Words.{be16_at, be32_at, be16, be32, Bytes, slice, written}
+use Rattle.words.specs.Words.{be32_at, be16, be32, Bytes, slice, written}
 use Rattle.words.proofs.Slices.{slices, slice16}
 use Rattle.words.proofs.Writes.{slices_written}
 use Rattle.record.specs.declared.fault.RecordFault.{RecordFault}
@@ -19,12 +19,12 @@ use Rattle.frame.specs.declared.header.Header.{Header}
 use Rattle.frame.specs.declared.fault.FrameFault.TheVariants as frame
 use Rattle.frame.specs.Layout.{samples_at, gaps_at, rows_at, frame_size_of}
 use Rattle.frame.specs.Records.{fault, records_read}
-use Rattle.frame.specs.Paths.{Path, header_at, header_read, sample_place, gap_place, row_place_of, sample_at_of, gap_at, row_at, path_read, accepted}
+use Rattle.frame.specs.Paths.{header_at, header_read, sample_place, gap_place, row_place_of, sample_at_of, gap_at, row_at, path_read, accepted}
 use Rattle.frame.specs.Views.{path_of}
 use Rattle.frame.specs.declared.writing.WriteFault.TheVariants.{Memory}
 use Rattle.frame.specs.Writes.{header_bytes_of, path_bytes, Rewritable, fronted, Writes}
-use Rattle.frame.proofs.Accepted.{HeaderFacts, header_facts, Yes, yes'}
-use Rattle.frame.proofs.Whole.{Held, read_whole}
+use Rattle.frame.proofs.Accepted.{header_facts, yes'}
+use Rattle.frame.proofs.Whole.{read_whole}
 use Rattle.frame.proofs.Puts.{sample_again, gap_again, row_again}
 
 -- ---- records

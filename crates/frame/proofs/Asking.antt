@@ -1,5 +1,5 @@
 -- Records asked one after another: one record on, and what an answer for all tells of each.
-use Rattle.std.proofs.Common.{◌≡◌, ℕ, zero, suc, ◌+◌, ◌-◌, ◌<◌, ◌≤◌, List, [], ◌∷◌, length, get_or, Ok, Err, Result, refl, ap, ◌∙◌, subst, arith}
+use Rattle.std.proofs.Common.{◌≡◌, ℕ, zero, suc, ◌+◌, ◌-◌, ◌<◌, List, [], ◌∷◌, length, get_or, Ok, Err, Result, refl, ap, ◌∙◌, subst, arith}
 use Rattle.record.specs.declared.fault.RecordFault.{RecordFault}
 use Rattle.clause.specs.Asking.{within}
 use Rattle.clause.proofs.Questions.{passed_within}

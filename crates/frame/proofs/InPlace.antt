@@ -1,17 +1,15 @@
 -- The records of an accepted frame are what lies in its bytes.
-use Rattle.std.proofs.Common.{◌≡◌, ℕ, ◌+◌, ◌-◌, ◌*◌, ◌<◌, ◌≤◌, Bool, true, false, cond, ltb, List, [], ◌∷◌, length, ℤ, is_ok, Some, None, Ok, Err, Option, Result, sym, refl, ap, ◌∙◌, subst, arith, w32, to_z}
+use Rattle.std.proofs.Common.{◌≡◌, ℕ, ◌+◌, ◌-◌, ◌*◌, ◌<◌, ◌≤◌, true, ltb, List, is_ok, Some, None, Ok, Err, Result, sym, refl, ap, ◌∙◌, arith, w32, to_z}
 use Rattle.std.proofs.lemmas.Bool.{lt-ltb, le-ltb, cond-true, cond-false}
 use Rattle.words.specs.Words.{be32_at}
 use Rattle.record.specs.declared.sample.Sample.{Sample}
-use Rattle.record.specs.declared.gap.Gap.{Gap}
 use Rattle.record.specs.declared.row.TorqueRow.{TorqueRow}
 use Rattle.record.specs.Samples.{sample_words_at}
 use Rattle.record.specs.Gaps.{gap_words_at}
 use Rattle.record.specs.Rows.{row_words_at, row_of}
-use Rattle.record.proofs.RecordTrips.{GapFacts, gap_facts, SampleAsked, sample_asked_lem, RowAsked, row_asked_lem}
-use Rattle.frame.specs.declared.header.Header.{Header}
+use Rattle.record.proofs.RecordTrips.{gap_facts, SampleAsked, sample_asked_lem, RowAsked, row_asked_lem}
 use Rattle.frame.specs.Layout.{samples_at, gaps_at, rows_at}
-use Rattle.frame.specs.Records.{records_read, ok_of, record_at_of}
+use Rattle.frame.specs.Records.{records_read, ok_of}
 use Rattle.frame.specs.Paths.{header_at, at_end_of, sample_place, gap_place, row_place_of, row_around, sample_at_of, gap_at, row_at, accepted}
 use Rattle.frame.specs.Views.{path_of, nth, offset_in}
 use Rattle.frame.proofs.Accepted.{yes', record_is}

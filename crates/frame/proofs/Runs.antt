@@ -1,5 +1,5 @@
 -- Records written one after another, each where it lies.
-use Rattle.std.proofs.Common.{◌≡◌, ℕ, ◌+◌, ◌*◌, ◌<◌, ◌≤◌, List, [], length, take, drop, sym, refl, ap, ◌∙◌, mul-le-mul_left, mul-zero, mul-one, mul-add, arith}
+use Rattle.std.proofs.Common.{◌≡◌, ℕ, ◌+◌, ◌*◌, ◌<◌, ◌≤◌, List, length, sym, refl, ap, ◌∙◌, mul-le-mul_left, mul-zero, mul-one, mul-add, arith}
 use Rattle.words.specs.Words.{slice, written}
 use Rattle.words.proofs.Writes.{nothing, slices_written}
 

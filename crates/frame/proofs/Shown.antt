@@ -1,5 +1,5 @@
 -- What is known of a record that a view shows.
-use Rattle.std.proofs.Common.{◌≡◌, ℕ, ◌+◌, ◌-◌, ◌*◌, ◌<◌, ◌≤◌, Bool, true, false, cond, ltb, List, length, Some, None, Ok, Err, Option, Result, refl, ap, ◌∙◌, arith}
+use Rattle.std.proofs.Common.{◌≡◌, ℕ, ◌+◌, ◌-◌, ◌*◌, ◌<◌, Bool, true, false, cond, ltb, List, length, Some, None, Ok, Err, Result, refl, ap, ◌∙◌, arith}
 use Rattle.std.proofs.lemmas.Bool.{ltb-true}
 use Rattle.words.specs.Words.{Bytes}
 use Rattle.record.specs.declared.sample.Sample.{Sample}
@@ -11,7 +11,7 @@ use Rattle.record.specs.Rows.{row_words_at}
 use Rattle.record.proofs.RecordTrips.{SampleFacts, GapFacts, RowFacts}
 use Rattle.frame.specs.declared.header.Header.{Header}
 use Rattle.frame.specs.Layout.{samples_at, gaps_at, rows_at, frame_size_of}
-use Rattle.frame.specs.Records.{ok_of, record_at_of}
+use Rattle.frame.specs.Records.{ok_of}
 use Rattle.frame.specs.Paths.{header_at, sample_place, gap_place, row_place_of, row_around, sample_at_of, gap_at, row_at, accepted}
 use Rattle.frame.specs.Views.{path_of, nth}
 use Rattle.frame.proofs.Accepted.{yes', record_is}

@@ -1,5 +1,5 @@
 -- The whole frame read: its header and then its records.
-use Rattle.std.proofs.Common.{◌≡◌, ℕ, ◌-◌, true, List, Ok, Err, Result, sym, refl, ap, ◌∙◌, subst, arith}
+use Rattle.std.proofs.Common.{◌≡◌, ℕ, ◌-◌, List, Ok, Err, Result, sym, refl, ap, ◌∙◌, subst, arith}
 use Rattle.clause.specs.Asking.{within}
 use Rattle.clause.proofs.Questions.{passed_within}
 use Rattle.frame.specs.declared.header.Header.{Header}

@@ -1,10 +1,9 @@
 -- A frame's bytes read, and its records written again.
 use Rattle.std.specs.Prelude.{◌≡◌, ℕ, List, Ok, Err, Result}
-use Rattle.frame.specs.declared.fault.FrameFault.{FrameFault}
 use Rattle.frame.specs.declared.writing.WriteFault.TheVariants as write
 use Rattle.frame.specs.declared.rewriting.RewriteFault.{RewriteFault}
 use Rattle.frame.specs.declared.rewriting.RewriteFault.TheVariants.{Frame, Memory}
-use Rattle.frame.specs.Paths.{Path, path_read}
+use Rattle.frame.specs.Paths.{path_read}
 use Rattle.frame.specs.Writes.{Writes}
 
 -- the answer and the memory at the end: a refused frame changes nothing, an accepted one is written

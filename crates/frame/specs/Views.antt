@@ -1,5 +1,5 @@
 -- What a view of an accepted frame shows.
-use Rattle.std.specs.Prelude.{◌≡◌, ℕ, zero, suc, List, [], ◌∷◌, ℤ, Some, None, Ok, Err, Option, Result}
+use Rattle.std.specs.Prelude.{ℕ, zero, suc, List, [], ◌∷◌, ℤ, Some, None, Ok, Err, Option, Result}
 use Rattle.record.specs.declared.sample.Sample.{Sample}
 use Rattle.clause.specs.Clauses.{ClauseCap}
 use Rattle.frame.specs.declared.fault.FrameFault.{FrameFault}

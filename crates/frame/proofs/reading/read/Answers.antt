@@ -1,6 +1,5 @@
-use Rattle.std.proofs.Common.{Ok, Err, Result, sym, ap, ◌∙◌, le_of_eq}
+use Rattle.std.proofs.Common.{Err, sym, ap, ◌∙◌, le_of_eq}
 use Rattle.std.proofs.lemmas.Result.{err_from_is_err_and}
-use Rattle.frame.specs.declared.header.Header.{Header}
 use Rattle.frame.specs.declared.fault.FrameFault.{FrameFault}
 use Rattle.frame.proofs.Accepted.{header_facts}
 use Rattle.frame.proofs.Whole.{no_header, no_records, all_records}

@@ -1,4 +1,4 @@
-use Rattle.std.proofs.Common.{◌≡◌, ℕ, ◌*◌, sym, ap, ◌∙◌, arith}
+use Rattle.std.proofs.Common.{◌≡◌, ℕ, ◌*◌, ap, ◌∙◌, arith}
 use Rattle.words.specs.Words.{slice, written}
 use Rattle.frame.proofs.Runs.{none_written, one_written}
 use Rattle.frame.proofs.records.put_records.Goals as goal

@@ -1,4 +1,4 @@
-use Rattle.std.proofs.Common.{◌≡◌, ℕ, ◌+◌, ◌*◌, List, sym, ap, ◌∙◌, arith}
+use Rattle.std.proofs.Common.{ℕ, ◌+◌, ◌*◌, List, sym, ap, ◌∙◌, arith}
 use Rattle.words.specs.Words.{written}
 use Rattle.frame.specs.Layout.{rows_at}
 use Rattle.frame.proofs.Puts.{row_again}

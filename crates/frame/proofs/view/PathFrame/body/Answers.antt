@@ -1,4 +1,4 @@
-use Rattle.std.proofs.Common.{◌≡◌, ◌≤◌, length, sym, ◌∙◌, subst, le_of_eq}
+use Rattle.std.proofs.Common.{◌≤◌, length, sym, ◌∙◌, subst, le_of_eq}
 use Rattle.frame.specs.declared.header.Header.{Header}
 use Rattle.frame.specs.Layout.{frame_size_of}
 use Rattle.frame.proofs.Accepted.{yes'}

@@ -1,4 +1,4 @@
-use Rattle.std.proofs.Common.{◌≡◌, ℕ, ◌+◌, ◌-◌, ◌*◌, ◌<◌, ◌≤◌, true, List, Some, None, ap, ◌∙◌, subst, arith}
+use Rattle.std.proofs.Common.{◌≡◌, ℕ, ◌+◌, ◌-◌, ◌*◌, ◌<◌, ◌≤◌, true, List, Some, None, ap, ◌∙◌, subst}
 use Rattle.record.specs.declared.gap.GapWords.{GapWords}
 use Rattle.record.specs.Gaps.{gap_words_at}
 use Rattle.frame.specs.declared.header.Header.{Header}

@@ -1,4 +1,4 @@
-use Rattle.std.proofs.Common.{◌≡◌, ℕ, ◌+◌, ◌*◌, ◌^◌, ◌<◌, ◌≤◌, true, List, ℤ, Some, None, sym, ap, ◌∙◌, subst, w32, to_z, of_z}
+use Rattle.std.proofs.Common.{◌≡◌, ℕ, ◌+◌, ◌*◌, ◌^◌, ◌<◌, ◌≤◌, true, List, ℤ, Some, ap, ◌∙◌, subst, w32, to_z, of_z}
 use Rattle.std.proofs.lemmas.Int.{of_z-to_z}
 use Rattle.words.specs.Words.{be32_at}
 use Rattle.frame.specs.declared.header.Header.{Header}

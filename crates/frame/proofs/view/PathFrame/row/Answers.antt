@@ -1,4 +1,4 @@
-use Rattle.std.proofs.Common.{◌≡◌, ℕ, ◌+◌, ◌*◌, ◌<◌, ◌≤◌, true, List, Some, None, ap, ◌∙◌, subst}
+use Rattle.std.proofs.Common.{◌≡◌, ℕ, ◌+◌, ◌*◌, ◌<◌, ◌≤◌, true, List, Some, ap, ◌∙◌, subst}
 use Rattle.record.specs.declared.row.TorqueRow.{TorqueRow}
 use Rattle.record.specs.declared.row.RowWords.{RowWords}
 use Rattle.record.specs.Rows.{row_words_at, row_of}
