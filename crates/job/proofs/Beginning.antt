@@ -1,5 +1,5 @@
 -- Sheets whose values begin at their caps, and the job over them.
-use Rattle.std.proofs.Common.{◌≡◌, ℕ, zero, suc, ◌<◌, ◌≤◌, List, [], ◌∷◌, ◌++◌, map, length, take, drop, sym, refl, ap, ◌∙◌, subst, arith}
+use Rattle.std.proofs.Common.{◌≡◌, ℕ, zero, suc, ◌≤◌, List, [], ◌∷◌, ◌++◌, map, length, take, drop, sym, refl, ap, ◌∙◌, subst, arith}
 use Rattle.std.proofs.lemmas.List.{take_at, drop_at, length-map, length-take-le}
 use Rattle.grade.specs.declared.cell.Cell.{Cell}
 use Rattle.grade.specs.declared.class.Class.{Class}
@@ -21,7 +21,7 @@ use Rattle.runs.specs.Law.{RunLaw}
 use Rattle.sweep.specs.Beginnings.{at_cap}
 use Rattle.job.specs.declared.job.Job.{Job}
 use Rattle.job.specs.Whole.{top_of, whole, setting}
-use Rattle.job.specs.Holding.{held, whole_of, room_for, Led}
+use Rattle.job.specs.Holding.{held, whole_of, Led}
 use Rattle.job.specs.Making.{caps_of, floors_of, handed, start_of, opened, Made}
 use Rattle.job.proofs.Acting.{front_length}
 use Rattle.job.proofs.Lawful.{led_lawful}

@@ -12,7 +12,7 @@ use Rattle.runs.specs.Sheets.{Sheets}
 use Rattle.runs.specs.Jobs.{Job, job, marking, onward, turned, upcoming}
 use Rattle.runs.specs.Evaluations.{finished, continued, followed, finding, evaluated, lowering}
 use Rattle.sweep.specs.declared.sweeping.Outcome.{Outcome}
-use Rattle.sweep.specs.declared.sweeping.Outcome.TheVariants.{Stuck, Onward, Ended}
+use Rattle.sweep.specs.declared.sweeping.Outcome.TheVariants.{Onward, Ended}
 use Rattle.sweep.specs.Outcomes.{goes, outcome_from}
 use Rattle.sweep.specs.Visits.{lowered}
 use Rattle.job.specs.Steps.{settles, follows, stepped, fallen}

@@ -12,7 +12,7 @@ use Rattle.runs.specs.declared.call.Call.{Call}
 use Rattle.runs.specs.declared.call.Fault.{Fault}
 use Rattle.runs.specs.declared.stage.Make.{Make}
 use Rattle.runs.specs.declared.stage.Make.TheVariants.{Classes, Speeds}
-use Rattle.runs.specs.Settings.{Setting, SettingLaw}
+use Rattle.runs.specs.Settings.{SettingLaw}
 use Rattle.runs.specs.Making.{Start, StartLaw, made}
 use Rattle.runs.specs.Calls.{granted, refused, verdict, acted, replied, called, answered}
 use Rattle.runs.specs.Runs.{after}

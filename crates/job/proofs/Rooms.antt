@@ -1,5 +1,5 @@
 -- Memory that holds every sample.
-use Rattle.std.proofs.Common.{◌≡◌, ℕ, ◌≤◌, Bool, true, false, leb, IfOk, Ok, Err, Result, sym, refl, ap, ◌∙◌, arith}
+use Rattle.std.proofs.Common.{◌≡◌, ℕ, ◌≤◌, Bool, true, false, leb, IfOk, Ok, Err, Result, refl, ap, ◌∙◌, arith}
 use Rattle.std.proofs.lemmas.Bool.{leb-true, le-leb}
 use Rattle.runs.specs.declared.call.Fault.{Fault}
 use Rattle.runs.specs.declared.call.Fault.TheVariants.{NoClassMemory, NoSpeedMemory}

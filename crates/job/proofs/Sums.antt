@@ -3,20 +3,15 @@ use Rattle.std.proofs.Common.{◌≡◌, ℕ, ◌+◌, ◌*◌, ◌≤◌, List,
 use Rattle.std.proofs.lemmas.List.Sums.{sum-map}
 use Rattle.grade.specs.declared.cell.Cell.{Cell}
 use Rattle.grade.specs.Ranks.{ranked_all}
-use Rattle.grade.specs.Tops.{class_top, speed_top}
 use Rattle.grade.proofs.Ranking.{values_ranked}
-use Rattle.limit.specs.Numbers.{Number, LimitLaw}
-use Rattle.runs.specs.declared.call.Call.{Call}
 use Rattle.runs.specs.declared.call.Call.TheVariants.{Advance}
 use Rattle.runs.specs.declared.stage.Make.TheVariants.{Classes, Speeds}
 use Rattle.runs.specs.Sheets.{values}
 use Rattle.runs.specs.Calls.{granted}
-use Rattle.runs.specs.Making.{Start}
 use Rattle.runs.specs.Keeping.{own}
-use Rattle.runs.specs.Runs.{after}
-use Rattle.runs.specs.Law.{Ended, enough}
+use Rattle.runs.specs.Law.{enough}
 use Rattle.runs.proofs.Law.{runs_lawful}
-use Rattle.job.specs.Holding.{Held, count, whole_of, setting_of, room, Led}
+use Rattle.job.specs.Holding.{Held, count, whole_of, setting_of, room}
 use Rattle.job.specs.Allowing.{Suffices}
 use Rattle.job.proofs.Lawful.{lawful_setting}
 

@@ -1,6 +1,4 @@
-use Rattle.std.proofs.Common.{◌≡◌, ◌-◌, ◌<◌, length, sym, refl, ap, ◌∙◌, arith}
-use Rattle.grade.specs.Ranks.{ranked_all}
-use Rattle.runs.specs.Sheets.{Sheets}
+use Rattle.std.proofs.Common.{◌≡◌, ◌-◌, ◌<◌, length, sym, ap, ◌∙◌, arith}
 use Rattle.runs.specs.Evaluations.{poured}
 use Rattle.job.specs.Table.{entry}
 use Rattle.grade.specs.Ranks.{class_rank, speed_rank}

@@ -1,4 +1,4 @@
-use Rattle.std.proofs.Common.{◌≡◌, ℕ, ◌+◌, ◌-◌, ◌≤◌, sym, refl, ap, ◌∙◌, arith}
+use Rattle.std.proofs.Common.{◌≡◌, ◌+◌, ◌-◌, ◌≤◌, sym, refl, ap, ◌∙◌, arith}
 use Rattle.limit.specs.Numbers.{Number}
 use Rattle.runs.specs.Settings.{Setting}
 use Rattle.runs.specs.Sheets.{Sheets}

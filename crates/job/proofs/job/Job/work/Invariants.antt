@@ -1,4 +1,4 @@
-use Rattle.std.proofs.Common.{◌≡◌, ◌-◌, ◌≤◌, length}
+use Rattle.std.proofs.Common.{◌≡◌, ◌-◌, ◌≤◌}
 use Rattle.runs.specs.Calls.{advanced}
 use Rattle.job.specs.Whole.{whole, setting}
 use Rattle.job.proofs.Fuel.{plus}
