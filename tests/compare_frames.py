@@ -11,7 +11,7 @@ import tempfile
 from pathlib import Path
 
 TOP = Path(__file__).resolve().parent.parent
-PROGRAM = TOP / "target" / "bin" / "furqyzet"
+PROGRAM = TOP / "crates" / "furqyzet" / "out" / "furqyzet"
 MOST = 2147483647
 LARGE = 16777216
 

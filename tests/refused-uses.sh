@@ -1,19 +1,19 @@
 #!/usr/bin/env bash
-# Two uses that the check refuses: for each text of docs/refused, its marked line is refused under the name that the text
-# gives, and without that line the same text is proved. Prints the advice for each.
-set -u
+# Two uses of a job that the compiler refuses: each text of docs/refused is proved without its marked line, and with that
+# line it is refused under the name that the text gives. Prints the advice for each. The work is done on a copy of the crates
+# outside the checkout; of the crates below, what an earlier rt ci proved on this machine is not proved again.
+set -u -o pipefail
 cd "$(dirname "$0")/.." || exit 2
 work=$(mktemp -d) || exit 2
 trap 'rm -rf "$work"' EXIT
 crate=misuse
-# the repository's crates, and what is proved of them already
-cp -r crates "$work/" && cp crates.txt "$work/"
+tar -cf - --exclude='crates/*/out' crates crates.txt | tar -xf - -C "$work" || exit 2
 echo "$crate: words grade limit runs sweep job setpoint" >>"$work/crates.txt"
-mkdir -p "$work/crates/$crate/src" "$work/target"
-for kept in rlib stamp; do [ ! -d "target/$kept" ] || cp -r "target/$kept" "$work/target/"; done
+mkdir -p "$work/crates/$crate/src"
 
 status=0
 complain() { echo "refused-uses: $1"; status=1; }
+check() { (cd "$work" && rt ci "$crate") >"$work/log" 2>&1; }
 
 for text in docs/refused/*.rt.txt; do
     use=$(basename "$text" .rt.txt)
@@ -22,12 +22,12 @@ for text in docs/refused/*.rt.txt; do
     [ -n "$advice" ] && [ -n "$name" ] && [ "$(grep -c '// refused$' "$text")" = 1 ] || { complain "$text lacks its advice, its error or its mark"; continue; }
     source=$work/crates/$crate/src/lib.rt
     sed '/\/\/ refused$/d' "$text" >"$source"
-    (cd "$work" && rt check "$crate") >"$work/log" 2>&1 || { complain "$use is not proved without its marked line"; tail -n 20 "$work/log"; }
+    check || { complain "$use is not proved without its marked line"; tail -n 20 "$work/log"; continue; }
     cp "$text" "$source"
-    if (cd "$work" && rt check "$crate") >"$work/log" 2>&1; then
+    if check; then
         complain "$use is not refused"
-    elif ! grep -q "$name" "$work/log"; then
-        complain "$use is refused, and not as $name"
+    elif ! grep -qF "src/lib.rt:$(grep -n '// refused$' "$text" | cut -d: -f1):" "$work/log" || ! grep -qF "error[$name]" "$work/log"; then
+        complain "$use is refused, and not as $name at its marked line"
         tail -n 20 "$work/log"
     else
         echo "$use: refused ($name): $advice"
