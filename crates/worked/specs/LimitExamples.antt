@@ -1,5 +1,5 @@
 -- What limits allow in small cases, as one statement.
-use Rattle.std.specs.Prelude.{ℕ, ◌≡◌, List, [], ◌∷◌, ℤ, pos, negsuc}
+use Rattle.std.specs.Prelude.{◌≡◌, List, [], ◌∷◌, ℤ, pos, negsuc}
 use Rattle.grade.specs.Tops.{class_top}
 use Rattle.motion.specs.declared.rows.Row.{Row}
 use Rattle.motion.specs.declared.steps.Step.{Step}
