@@ -23,8 +23,8 @@ loop-at-init g c =
 
 pub loop-at-preserved : goal.loop-at-preserved
 loop-at-preserved g c =
-    let a = g.C.Limit.number c.args.class-limit.now in
-    let b = g.S.Limit.number c.args.speed-limit.now in
+    let a = g.C.Limit.number c.args.class_limit.now in
+    let b = g.S.Limit.number c.args.speed_limit.now in
     let σ : Setting = setting c.args.job.now.samples.count a b in
     let start : Held = held c.args.job.now c.args.classes.now.cells.now c.args.speeds.now.cells.now in
     let here : Held = held c.loop-at.job c.loop-at.classes.cells.now c.loop-at.speeds.cells.now in
@@ -37,7 +37,7 @@ loop-at-preserved g c =
     let cs = take at calls in
     let this : Call = get_or calls at (Advance 0) in
     let x = c.perform.result in
-    let roomy = sym c.in-ok-ask-room.ensures.is in
+    let roomy = sym c.in_ok-ask_room.ensures.is in
     let does = c.perform.ensures.does in
     let in-calls : at < length calls = omega arith in
     let in-old : at < length old = omega arith in
@@ -50,23 +50,23 @@ loop-at-preserved g c =
           ∙ ap (λ l. l ++ drop (at + 1) old) (sym (answers_more σ cs this w)) ∙ ap (λ l. answers σ l w ++ drop (at + 1) old) (sym more)),
     )
 
-pub returns-in-err-ask-room : goal.returns-in-err-ask-room
-returns-in-err-ask-room g c =
-    let a = g.C.Limit.number c.args.class-limit.now in
-    let b = g.S.Limit.number c.args.speed-limit.now in
+pub returns-in_err-ask_room : goal.returns-in_err-ask_room
+returns-in_err-ask_room g c =
+    let a = g.C.Limit.number c.args.class_limit.now in
+    let b = g.S.Limit.number c.args.speed_limit.now in
     let h : Held = held c.args.job.now c.args.classes.now.cells.now c.args.speeds.now.cells.now in
     let old = c.args.answers.now in
     let calls = placed c.args.calls.now old in
-    let r : Result ℕ Fault = c.from-residual.result in
-    let p = err_from_is_err_and r c.from-residual.ensures.1 in
+    let r : Result ℕ Fault = c.from_residual.result in
+    let p = err_from_is_err_and r c.from_residual.ensures.1 in
     let runs : Runs a b calls h h old old r =
-    subst (Runs a b calls h h old old) (sym (p.1 ∙ ap Err p.2)) (runs_none a b h calls old c.in-err-ask-room.field-0.0 c.in-err-ask-room.ensures.is) in
+    subst (Runs a b calls h h old old) (sym (p.1 ∙ ap Err p.2)) (runs_none a b h calls old c.in_err-ask_room.field-0.0 c.in_err-ask_room.ensures.is) in
     record { lent = (refl, refl); runs = runs; law = lawful_run a b c.lawful.ensures c.lawful-2.ensures calls h h old old r runs }
 
 pub returns : goal.returns
 returns g c =
-    let a = g.C.Limit.number c.args.class-limit.now in
-    let b = g.S.Limit.number c.args.speed-limit.now in
+    let a = g.C.Limit.number c.args.class_limit.now in
+    let b = g.S.Limit.number c.args.speed_limit.now in
     let i = c.loop-at.invariant in
     let calls = c.args.calls.now in
     let old = c.args.answers.now in
@@ -76,5 +76,5 @@ returns g c =
     let m = c.loop-at.at in
     let all : m ≡ c.min-count.result = omega arith in
     let runs : Runs a b (placed calls old) start here old new (Ok c.min-count.result) =
-    subst (λ k. Runs a b (placed calls old) start here old new (Ok k)) all (runs_all a b start here calls old new m (omega arith) (sym c.in-ok-ask-room.ensures.is) i.2 i.3) in
+    subst (λ k. Runs a b (placed calls old) start here old new (Ok k)) all (runs_all a b start here calls old new m (omega arith) (sym c.in_ok-ask_room.ensures.is) i.2 i.3) in
     record { lent = (i.0, i.1); runs = runs; law = lawful_run a b c.lawful.ensures c.lawful-2.ensures (placed calls old) start here old new (Ok c.min-count.result) runs }
