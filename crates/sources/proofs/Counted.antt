@@ -1,12 +1,11 @@
 -- How many records an accepted frame has, and what a reading of one says.
-use Rattle.std.proofs.Common.{◌≡◌, ℕ, zero, suc, ◌-◌, ◌<◌, true, List, [], ◌∷◌, map, length, get_or, ℤ, pos, Some, None, Option, sym, ap, ◌∙◌, arith}
+use Rattle.std.proofs.Common.{◌≡◌, ℕ, zero, suc, ◌-◌, ◌<◌, true, List, [], ◌∷◌, map, length, get_or, ℤ, pos, Some, None, sym, ap, ◌∙◌, arith}
 use Rattle.record.specs.declared.sample.Sample.{Sample}
 use Rattle.frame.specs.declared.header.Header.{Header}
 use Rattle.frame.specs.Paths.{header_at, sample_place, gap_place, row_place_of, accepted}
 use Rattle.frame.specs.Views.{path_of, nth, offset_in}
 use Rattle.frame.proofs.Accepted.{yes'}
 use Rattle.frame.proofs.Asking.{answered}
-use Rattle.sources.specs.Sources.{offsets_of}
 
 module _ (bs : List ℕ) (e : accepted bs ≡ true) where
   pub samples_counted : (path_of bs).header.samples ≡ length (path_of bs).samples

@@ -1,5 +1,5 @@
 -- What the limits of a path read of it, and their numbers.
-use Rattle.std.specs.Prelude.{ℕ, List, map, ℤ, pos}
+use Rattle.std.specs.Prelude.{List, map, ℤ, pos}
 use Rattle.grade.specs.Profiles.{Profile}
 use Rattle.grade.specs.Tops.{class_top}
 use Rattle.limit.specs.Numbers.{Number}
