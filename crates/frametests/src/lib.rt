@@ -4,6 +4,6 @@
 #[cfg(test)]
 mod building;
 #[cfg(test)]
-mod caps;
+mod clause_caps;
 #[cfg(test)]
 mod refusals;
