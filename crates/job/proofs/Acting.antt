@@ -73,27 +73,27 @@ module _ (a b : Number) (call : Call) (j : Job) (cs : List (Cell Class)) (ss : L
   }
 
   -- it is done, and leaves h'
-  module _ (yes-is : granted ≡ asked a b call h) where
+  module _ (yes_is : granted ≡ asked a b call h) where
     pub does : (h' : Held) (x : Answer) → Holds (acted σ call (whole_of h)) h h' → x ≡ replied σ call (whole_of h) → Does a b call h h' x
     does h' x holds reply = record {
-      answer = reply ∙ ap (λ v. judged v (replied σ call (whole_of h)) Refused) yes-is;
-      holds = subst (λ w. Holds w h h') (ap (λ v. judged v (acted σ call (whole_of h)) (λ _. whole_of h)) yes-is) holds;
+      answer = reply ∙ ap (λ v. judged v (replied σ call (whole_of h)) Refused) yes_is;
+      holds = subst (λ w. Holds w h h') (ap (λ v. judged v (acted σ call (whole_of h)) (λ _. whole_of h)) yes_is) holds;
       unchanged = λ f e. absurd (never_refused σ call (whole_of h) f (sym reply ∙ e));
     }
 
     -- the front is as long as the job has samples, k
-    module _ (c-fit : j.samples.count ≤ length cs) (s-fit : j.samples.count ≤ length ss) (k : ℕ) (k-is : k ≡ j.samples.count) (j' : Job) (samples : j'.samples ≡ j.samples) (x : Answer) where
+    module _ (c-fit : j.samples.count ≤ length cs) (s-fit : j.samples.count ≤ length ss) (k : ℕ) (k_is : k ≡ j.samples.count) (j' : Job) (samples : j'.samples ≡ j.samples) (x : Answer) where
       abbrev w : Whole
       w = whole j (take k cs) (take k ss)
 
       w_is : w ≡ whole_of h
-      w_is = ap (λ n. whole j (take n cs) (take n ss)) k-is
+      w_is = ap (λ n. whole j (take n cs) (take n ss)) k_is
 
       front : {X : Type 0} (new old : List X) → length new ≡ k → take j'.samples.count (new ++ drop k old) ≡ new
-      front new old e = take_at new (drop k old) j'.samples.count (e ∙ k-is ∙ ap (λ s. s.count) (sym samples))
+      front new old e = take_at new (drop k old) j'.samples.count (e ∙ k_is ∙ ap (λ s. s.count) (sym samples))
 
       past : {X : Type 0} (new old : List X) → length new ≡ k → drop j.samples.count (new ++ drop k old) ≡ drop j.samples.count old
-      past new old e = drop_at new (drop k old) j.samples.count (e ∙ k-is) ∙ ap (λ n. drop n old) k-is
+      past new old e = drop_at new (drop k old) j.samples.count (e ∙ k_is) ∙ ap (λ n. drop n old) k_is
 
       pub acts : (cs' : List (Cell Class)) (ss' : List (Cell Speed)) → length cs' ≡ k → length ss' ≡ k → whole j' cs' ss' ≡ acted σ call w → x ≡ replied σ call w
           → Does a b call h (held j' (cs' ++ drop k cs) (ss' ++ drop k ss)) x

@@ -61,8 +61,8 @@ start : (m n : ℕ) → Sheet → Sheet → Whole
 start m n X Y = job (checked m 0 X (checked n 0 Y (Working Classes))) fresh (record { classes = X; speeds = Y })
 
 -- the front, k cells of each memory, begins
-module _ (samples : Samples) (k : ℕ) (cs cs' : List (Cell Class)) (ss ss' : List (Cell Speed)) (j : Job) (k-is : k ≡ samples.count) (cs-fit : samples.count ≤ length cs) (ss-fit : samples.count ≤ length ss)
-    (cs-is : cs' ≡ map at_cap (take k cs)) (ss-is : ss' ≡ map at_cap (take k ss)) (samples_are : j.samples ≡ samples) where
+module _ (samples : Samples) (k : ℕ) (cs cs' : List (Cell Class)) (ss ss' : List (Cell Speed)) (j : Job) (k_is : k ≡ samples.count) (cs-fit : samples.count ≤ length cs) (ss-fit : samples.count ≤ length ss)
+    (cs_is : cs' ≡ map at_cap (take k cs)) (ss_is : ss' ≡ map at_cap (take k ss)) (samples_are : j.samples ≡ samples) where
   abbrev n : ℕ
   n = samples.count
 
@@ -72,39 +72,39 @@ module _ (samples : Samples) (k : ℕ) (cs cs' : List (Cell Class)) (ss ss' : Li
   front : {G : Type 0} (rank : G → ℕ) (xs xs' : List (Cell G)) → xs' ≡ map at_cap (take k xs)
       → ranked_all rank xs' ≡ begun (caps_of (ranked_all rank (take n xs))) (floors_of (ranked_all rank (take n xs)))
   front rank xs xs' is =
-      ap (ranked_all rank) is ∙ begins rank (take k xs) ∙ ap (λ m. begun (caps_of (ranked_all rank (take m xs))) (floors_of (ranked_all rank (take m xs)))) k-is
+      ap (ranked_all rank) is ∙ begins rank (take k xs) ∙ ap (λ m. begun (caps_of (ranked_all rank (take m xs))) (floors_of (ranked_all rank (take m xs)))) k_is
 
   count_is : k ≡ j.samples.count
-  count_is = k-is ∙ ap (λ s. s.count) (sym samples_are)
+  count_is = k_is ∙ ap (λ s. s.count) (sym samples_are)
 
   cells_are : {X : Type 0} (xs xs' : List (Cell X)) → n ≤ length xs → xs' ≡ map at_cap (take k xs) → take n (xs' ++ drop k xs) ≡ map at_cap (take n xs)
-  cells_are xs xs' fit is = take_at xs' (drop k xs) n (long xs xs' fit is ∙ k-is) ∙ is ∙ ap (λ m. map at_cap (take m xs)) k-is
+  cells_are xs xs' fit is = take_at xs' (drop k xs) n (long xs xs' fit is ∙ k_is) ∙ is ∙ ap (λ m. map at_cap (take m xs)) k_is
 
   past_are : {X : Type 0} (xs xs' : List (Cell X)) → n ≤ length xs → xs' ≡ map at_cap (take k xs) → drop n (xs' ++ drop k xs) ≡ drop n xs
-  past_are xs xs' fit is = drop_at xs' (drop k xs) n (long xs xs' fit is ∙ k-is) ∙ ap (λ m. drop m xs) k-is
+  past_are xs xs' fit is = drop_at xs' (drop k xs) n (long xs xs' fit is ∙ k_is) ∙ ap (λ m. drop m xs) k_is
 
   job_is : j.sweep ≡ fresh → j.stage ≡ opened cs' ss' → (a b : Number) → whole_of (held j (cs' ++ drop k cs) (ss' ++ drop k ss)) ≡ made (setting n a b) (start_of n cs ss)
   unfolding made start
   job_is sweep stage a b =
-      ap (λ l. whole j l (take j.samples.count (ss' ++ drop k ss))) (take_at cs' (drop k cs) j.samples.count (long cs cs' cs-fit cs-is ∙ count_is))
-      ∙ ap (λ l. whole j cs' l) (take_at ss' (drop k ss) j.samples.count (long ss ss' ss-fit ss-is ∙ count_is))
+      ap (λ l. whole j l (take j.samples.count (ss' ++ drop k ss))) (take_at cs' (drop k cs) j.samples.count (long cs cs' cs-fit cs_is ∙ count_is))
+      ∙ ap (λ l. whole j cs' l) (take_at ss' (drop k ss) j.samples.count (long ss ss' ss-fit ss_is ∙ count_is))
       ∙ ap (λ t. job t j.sweep (record { classes = ranked_all class_rank cs'; speeds = ranked_all speed_rank ss' })) stage
       ∙ ap (λ w. job (opened cs' ss') w (record { classes = ranked_all class_rank cs'; speeds = ranked_all speed_rank ss' })) sweep
-      ∙ ap (λ m. start m (length ss') (ranked_all class_rank cs') (ranked_all speed_rank ss')) (long cs cs' cs-fit cs-is ∙ k-is)
-      ∙ ap (λ m. start n m (ranked_all class_rank cs') (ranked_all speed_rank ss')) (long ss ss' ss-fit ss-is ∙ k-is)
-      ∙ ap (λ X. start n n X (ranked_all speed_rank ss')) (front class_rank cs cs' cs-is)
-      ∙ ap (start n n _) (front speed_rank ss ss' ss-is)
+      ∙ ap (λ m. start m (length ss') (ranked_all class_rank cs') (ranked_all speed_rank ss')) (long cs cs' cs-fit cs_is ∙ k_is)
+      ∙ ap (λ m. start n m (ranked_all class_rank cs') (ranked_all speed_rank ss')) (long ss ss' ss-fit ss_is ∙ k_is)
+      ∙ ap (λ X. start n n X (ranked_all speed_rank ss')) (front class_rank cs cs' cs_is)
+      ∙ ap (start n n _) (front speed_rank ss ss' ss_is)
 
   long_cs : length (cs' ++ drop k cs) ≡ length cs
-  long_cs = front_length k cs' cs (omega arith) (long cs cs' cs-fit cs-is)
+  long_cs = front_length k cs' cs (omega arith) (long cs cs' cs-fit cs_is)
 
   long_ss : length (ss' ++ drop k ss) ≡ length ss
-  long_ss = front_length k ss' ss (omega arith) (long ss ss' ss-fit ss-is)
+  long_ss = front_length k ss' ss (omega arith) (long ss ss' ss-fit ss_is)
 
   led : j.sweep ≡ fresh → j.stage ≡ opened cs' ss' → (a b : Number) → Led a b (start_of n cs ss) [] (held j (cs' ++ drop k cs) (ss' ++ drop k ss))
   unfolding run
   led sweep stage a b =
-      let e = k-is in
+      let e = k_is in
       let e' = count_is in
       record {
         start = subst (λ s. StartLaw (setting s.count a b) (start_of n cs ss)) (sym samples_are) (starts n a b cs ss cs-fit ss-fit);
@@ -117,14 +117,14 @@ module _ (samples : Samples) (k : ℕ) (cs cs' : List (Cell Class)) (ss ss' : Li
     room = room_yes n (length cs) (length ss) granted cs-fit ss-fit;
     samples_are = samples_are;
     job = job_is sweep stage;
-    classes_are = cells_are cs cs' cs-fit cs-is;
-    speeds_are = cells_are ss ss' ss-fit ss-is;
-    past_classes = past_are cs cs' cs-fit cs-is;
-    past_speeds = past_are ss ss' ss-fit ss-is;
+    classes_are = cells_are cs cs' cs-fit cs_is;
+    speeds_are = cells_are ss ss' ss-fit ss_is;
+    past_classes = past_are cs cs' cs-fit cs_is;
+    past_speeds = past_are ss ss' ss-fit ss_is;
     long_classes = long_cs;
     long_speeds = long_ss;
     leads = led sweep stage;
-    law = λ a b a_law b-law.
+    law = λ a b a_law b_law.
         subst (λ s. RunLaw (setting s.count a b) (start_of n cs ss) [] (whole_of (held j (cs' ++ drop k cs) (ss' ++ drop k ss)))) samples_are
-        (led_lawful a b a_law b-law (start_of n cs ss) [] (held j (cs' ++ drop k cs) (ss' ++ drop k ss)) (led sweep stage a b));
+        (led_lawful a b a_law b_law (start_of n cs ss) [] (held j (cs' ++ drop k cs) (ss' ++ drop k ss)) (led sweep stage a b));
   }

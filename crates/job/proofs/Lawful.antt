@@ -45,18 +45,18 @@ rises a (suc b) h l =
     (λ ne. le_trans (rises a b (omega arith) (omega arith)) (climbs b (omega arith))) (cases_eq a (suc b))
 
 pub lawful_setting : (n : ℕ) (a b : Number) → 0 < n → LimitLaw class_top a → LimitLaw speed_top b → SettingLaw (setting n a b)
-lawful_setting n a b some a_law b-law = record { sampled = some; limits = limits; rises = rises }
+lawful_setting n a b some a_law b_law = record { sampled = some; limits = limits; rises = rises }
   where
     limits : (m : Make) → LimitLaw (top_of m) (limit_of a b m)
     limits Classes = a_law
-    limits Speeds = b-law
+    limits Speeds = b_law
 
 module _ (a b : Number) where
   -- a job that is led to by a start and calls keeps the law
   pub led_lawful : LimitLaw class_top a → LimitLaw speed_top b → (s : Start) (cs : List Call) (h : Held) → Led a b s cs h → RunLaw (setting_of a b h) s cs (whole_of h)
-  led_lawful a_law b-law s cs h led =
+  led_lawful a_law b_law s cs h led =
       let l = h.job.samples.least in
-      subst (RunLaw (setting_of a b h) s cs) (sym led.job) (runs_lawful (setting_of a b h) (lawful_setting (count h) a b (omega arith) a_law b-law) s led.start cs)
+      subst (RunLaw (setting_of a b h) s cs) (sym led.job) (runs_lawful (setting_of a b h) (lawful_setting (count h) a b (omega arith) a_law b_law) s led.start cs)
 
   -- where the memories hold the samples, a call leads where the theory says
   pub in_room : (call : Call) (h : Held) → room h ≡ granted → outcome a b call h ≡ called (setting_of a b h) call (whole_of h)
@@ -98,22 +98,22 @@ module _ (a b : Number) where
 
   pub lawful_from : LimitLaw class_top a → LimitLaw speed_top b → (cs : List Call) (h h' : Held) → h'.job.samples ≡ h.job.samples
       → ((s : Start) (earlier : List Call) → Led a b s earlier h → Led a b s (earlier ++ cs) h') → Lawful a b cs h h'
-  lawful_from a_law b-law cs h h' samples leads = record {
+  lawful_from a_law b_law cs h h' samples leads = record {
     leads = leads;
-    law = λ s earlier led. subst (λ n. RunLaw (setting n.count a b) s (earlier ++ cs) (whole_of h')) samples (led_lawful a_law b-law s (earlier ++ cs) h' (leads s earlier led));
+    law = λ s earlier led. subst (λ n. RunLaw (setting n.count a b) s (earlier ++ cs) (whole_of h')) samples (led_lawful a_law b_law s (earlier ++ cs) h' (leads s earlier led));
   }
 
   pub lawful_call : LimitLaw class_top a → LimitLaw speed_top b → (call : Call) (h h' : Held) (x : Answer) → Does a b call h h' x → Lawful a b (call ∷ []) h h'
-  lawful_call a_law b-law call h h' x does = lawful_from a_law b-law (call ∷ []) h h' does.holds.samples
+  lawful_call a_law b_law call h h' x does = lawful_from a_law b_law (call ∷ []) h h' does.holds.samples
       (λ s earlier led. leads_on s earlier (call ∷ []) h h' led does.holds.samples does.holds.long_classes does.holds.long_speeds
       (does.holds.job ∙ in_room call h led.room ∙ ap (called (setting_of a b h) call) led.job ∙ sym (run_more (setting_of a b h) earlier call (made (setting_of a b h) s))))
 
 -- what a call promises that is handed no limit, by what it does
 pub promised : (call : Call) (h h' : Held) (x : Answer) → ((a b : Number) → Does a b call h h' x) → Promises call h h' x
-promised call h h' x does = record { does = does; law = λ a b a_law b-law. lawful_call a b a_law b-law call h h' x (does a b) }
+promised call h h' x does = record { does = does; law = λ a b a_law b_law. lawful_call a b a_law b_law call h h' x (does a b) }
 
 -- and where it is refused
 pub promised_refused : (call : Call) (j : Job) (cs : List (Cell Class)) (ss : List (Cell Speed)) (x : Answer) (f : Fault) → x ≡ Refused f
     → ((a b : Number) → refused f ≡ asked a b call (held j cs ss)) → Promises call (held j cs ss) (held j cs ss) x
-promised_refused call j cs ss x f e no-is =
-    promised call (held j cs ss) (held j cs ss) x (λ a b. subst (Does a b call (held j cs ss) (held j cs ss)) (sym e) (refuses a b call j cs ss f (no-is a b)))
+promised_refused call j cs ss x f e no_is =
+    promised call (held j cs ss) (held j cs ss) x (λ a b. subst (Does a b call (held j cs ss) (held j cs ss)) (sym e) (refuses a b call j cs ss f (no_is a b)))

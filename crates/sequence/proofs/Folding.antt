@@ -77,13 +77,13 @@ module _ (a b : Number) (h j : Held) (calls : List Call) (old new : List Answer)
 
   pub runs_all : (m : ℕ) → m ≡ min (length calls) (length old) → room h ≡ granted → Holds (run σ-run (take m calls) (whole_of h)) h j → new ≡ answers σ-run (take m calls) (whole_of h) ++ drop m old
       → Runs a b (placed calls old) h j old new (Ok m)
-  runs_all m all roomy holds New-is =
+  runs_all m all roomy holds new_is =
       let these : take m calls ≡ placed calls old = take-placed calls m (length old) all in
       let many : m ≡ length (placed calls old) = omega (arith, length-take (length old) calls) in
       record {
         returned = ap Ok many ∙ ap (λ v. judged v (Ok (length (placed calls old))) Err) (sym roomy);
         holds = subst (λ w. Holds w h j) (ap (λ l. run σ-run l (whole_of h)) these ∙ ap (λ v. judged v (run σ-run (placed calls old) (whole_of h)) (λ _. whole_of h)) (sym roomy)) holds;
-        answered = New-is ∙ ap (λ l. answers σ-run l (whole_of h) ++ drop m old) these ∙ ap (λ k. answers σ-run (placed calls old) (whole_of h) ++ drop k old) many
+        answered = new_is ∙ ap (λ l. answers σ-run l (whole_of h) ++ drop m old) these ∙ ap (λ k. answers σ-run (placed calls old) (whole_of h) ++ drop k old) many
             ∙ ap (λ v. judged v (answers σ-run (placed calls old) (whole_of h) ++ drop (length (placed calls old)) old) (λ _. old)) (sym roomy);
         unchanged = λ f e. let z : ◌≡◌ {A = ℕ} 0 1 = cc in absurd (omega arith);
       }
@@ -100,7 +100,7 @@ runs_none a b h calls old f e = record {
 -- the law over the calls of a run
 pub lawful_run : (a b : Number) → LimitLaw class_top a → LimitLaw speed_top b → (calls : List Call) (h h' : Held) (old new : List Answer) (r : Result ℕ Fault)
     → Runs a b calls h h' old new r → Lawful a b calls h h'
-lawful_run a b a_law b-law calls h h' old new r runs = lawful_from a b a_law b-law calls h h' runs.holds.samples
+lawful_run a b a_law b_law calls h h' old new r runs = lawful_from a b a_law b_law calls h h' runs.holds.samples
     (λ s earlier led. leads_on a b s earlier calls h h' led runs.holds.samples runs.holds.long_classes runs.holds.long_speeds
     (runs.holds.job ∙ ap (λ v. judged v (run (setting_of a b h) calls (whole_of h)) (λ _. whole_of h)) led.room
     ∙ ap (run (setting_of a b h) calls) led.job ∙ sym (run-append (setting_of a b h) earlier calls (made (setting_of a b h) s))))

@@ -67,10 +67,10 @@ module _ (classes : List (Cell Class)) (speeds : List (Cell Speed)) (alike : len
   pub turn : (d out out' bytes : List ℕ) (i k w : ℕ) → i < length classes → 7 ≤ length d → out ≡ written d 7 (setpoints (take i cs) (take i ws))
       → out' ≡ written out (7 + 3 * i) bytes → bytes ≡ setpoint k w → k ≡ rank cs i → w ≡ rank ws i
       → out' ≡ written d 7 (setpoints (take (i + 1) cs) (take (i + 1) ws))
-  turn d out out' bytes i k w h l before put_is bytes-are k-is w_is =
+  turn d out out' bytes i k w h l before put_is bytes_are k_is w_is =
       put_is ∙ ap (λ (z : List ℕ). written z (7 + 3 * i) bytes) before
       ∙ ap (λ (z : List ℕ). written (written d 7 (setpoints (take i cs) (take i ws))) (7 + 3 * i) z)
-      (bytes-are ∙ ap (λ (z : ℕ). setpoint z w) k-is ∙ ap (λ (z : ℕ). setpoint (rank cs i) z) w_is)
+      (bytes_are ∙ ap (λ (z : ℕ). setpoint z w) k_is ∙ ap (λ (z : ℕ). setpoint (rank cs i) z) w_is)
       ∙ more_written d cs ws i same (omega (arith, length-profile class_rank classes)) l
 
   -- after the last turn
@@ -83,8 +83,8 @@ module _ (classes : List (Cell Class)) (speeds : List (Cell Speed)) (alike : len
   -- the header put, and the setpoints behind it
   pub framed : (d e out' bytes : List ℕ) → 7 ≤ length d → bytes ≡ header (length classes) → e ≡ written d 0 bytes → out' ≡ written e 7 (setpoints cs ws)
       → out' ≡ setpoint_bytes_of cs ws ++ drop (frame_size_of (length classes)) d
-  framed d e out' bytes l bytes-are e-is put_is =
+  framed d e out' bytes l bytes_are e_is put_is =
       let n = length-profile class_rank classes in
-      put_is ∙ ap (λ (z : List ℕ). written z 7 (setpoints cs ws)) (e-is ∙ ap (written d 0) (bytes-are ∙ ap header (sym n)))
+      put_is ∙ ap (λ (z : List ℕ). written z 7 (setpoints cs ws)) (e_is ∙ ap (written d 0) (bytes_are ∙ ap header (sym n)))
       ∙ all_written d cs ws same l
       ∙ ap (λ (k : ℕ). setpoint_bytes_of cs ws ++ drop (frame_size_of k) d) n

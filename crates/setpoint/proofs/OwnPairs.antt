@@ -23,18 +23,18 @@ module _ (h : Held) (r : Released) (classes_are : r.classes.now ≡ take (count 
     classes = classes_are;
     speeds = speeds_are;
     pair = own_pair;
-    law = λ a b a_law b-law s cs led. subst (Greatest (setting_of a b h) (in_force (setting_of a b h) s cs)) (sym own_pair) ((led_lawful a b a_law b-law s cs h led).settled settled);
+    law = λ a b a_law b_law s cs led. subst (Greatest (setting_of a b h) (in_force (setting_of a b h) s cs)) (sym own_pair) ((led_lawful a b a_law b_law s cs h led).settled settled);
   }
 
 -- what is released and written is the job's own frame
 pub spends : (h : Held) (r : Released) (out out' : List ℕ) (size : ℕ) → count h ≤ length h.classes → Releases h r → size ≡ size_of r
     → out' ≡ frame_of r ++ drop (size_of r) out → Spends h out out' size
-spends h r out out' size room released size_is memory-is =
+spends h r out out' size room released size_is memory_is =
     let n : length r.classes.now ≡ count h = ap length released.classes ∙ length-take-le (count h) h.classes room in
     record {
       size_is = size_is ∙ ap frame_size_of n;
-      memory = memory-is
+      memory = memory_is
           ∙ ap (λ (P : Pair). setpoint_bytes_of (P Classes) (P Speeds) ++ drop (size_of r) out) released.pair
           ∙ ap (λ (k : ℕ). setpoint_bytes_of (own_pair_of h Classes) (own_pair_of h Speeds) ++ drop (frame_size_of k) out) n;
-      law = λ a b a_law b-law s cs led. subst (Greatest (setting_of a b h) (in_force (setting_of a b h) s cs)) released.pair (released.law a b a_law b-law s cs led);
+      law = λ a b a_law b_law s cs led. subst (Greatest (setting_of a b h) (in_force (setting_of a b h) s cs)) released.pair (released.law a b a_law b_law s cs led);
     }

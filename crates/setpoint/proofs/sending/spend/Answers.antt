@@ -4,5 +4,5 @@ use Rattle.setpoint.proofs.sending.spend.Goals as goal
 
 pub returns : goal.returns
 returns c =
-    spends (held c.args.job c.args.classes.now c.args.speeds.now) c.release.result c.args.out.now c.put-frame.new.out c.put-frame.result
-    c.requires.ready.room_classes c.release.ensures c.put-frame.ensures.size c.put-frame.ensures.memory
+    spends (held c.args.job c.args.classes.now c.args.speeds.now) c.release.result c.args.out.now c.put_frame.new.out c.put_frame.result
+    c.requires.ready.room_classes c.release.ensures c.put_frame.ensures.size c.put_frame.ensures.memory

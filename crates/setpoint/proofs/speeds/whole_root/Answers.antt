@@ -6,5 +6,5 @@ pub returns : goal.returns
 returns c =
     let w = c.args.w in
     let s = c.isqrt.result in
-    let is : Root w s = from_next w s c.isqrt.ensures.square_le c.isqrt.ensures.next-square-gt in
+    let is : Root w s = from_next w s c.isqrt.ensures.square_le c.isqrt.ensures.next_square_gt in
     record { greatest = is; root = only w s (root w) is (root_is w) }

@@ -12,8 +12,8 @@ loop-i-preserved c =
     let classes = c.args.classes.now in
     let speeds = c.args.speeds.now in
     let i = c.loop-i.i in
-    turn classes speeds c.requires.alike c.args.out.now c.loop-i.out c.put.new.out c.setpoint-bytes.result i _ _
-    (omega arith) (omega (arith, c.requires.room)) c.loop-i.invariant c.put.ensures c.setpoint-bytes.ensures
+    turn classes speeds c.requires.alike c.args.out.now c.loop-i.out c.put.new.out c.setpoint_bytes.result i _ _
+    (omega arith) (omega (arith, c.requires.room)) c.loop-i.invariant c.put.ensures c.setpoint_bytes.ensures
     (profile_at class_rank classes i _ (omega arith)) (profile_at speed_rank speeds i _ (omega (arith, c.requires.alike)))
 
 pub returns : goal.returns

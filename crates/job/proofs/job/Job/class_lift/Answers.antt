@@ -36,10 +36,10 @@ returns c =
     let room = c.in_ok-ask.ensures.room in
     let S : Sheets = sheets_of (take n classes) (take n speeds) in
     let S' : Sheets = sheets_of c.lift_cell-above.new.cells (take n speeds) in
-    let acted-is = lifts Classes i v j.stage j.sweep S S' _ c.lift_cell-above.result c.lift_cell-above.ensures.which (ap (λ s. record { classes = s; speeds = S.speeds }) c.lift_cell-above.ensures.sheet) (c.after_lift.ensures.relift S') in
+    let acted_is = lifts Classes i v j.stage j.sweep S S' _ c.lift_cell-above.result c.lift_cell-above.ensures.which (ap (λ s. record { classes = s; speeds = S.speeds }) c.lift_cell-above.ensures.sheet) (c.after_lift.ensures.relift S') in
     record {
       lent = refl;
       promises = promised (Lift Classes i v) (held j classes speeds) _ Done
           (λ a b. acts_classes a b (Lift Classes i v) j classes speeds (c.in_ok-ask.ensures.is a b) room.0 room.1 n (omega arith) c.after_lift.new.self c.after_lift.ensures.samples Done
-          c.lift_cell-above.new.cells (c.lift_cell-above.auto.cells ∙ length-take-le n classes (omega (arith, room.0))) acted-is refl);
+          c.lift_cell-above.new.cells (c.lift_cell-above.auto.cells ∙ length-take-le n classes (omega (arith, room.0))) acted_is refl);
     }

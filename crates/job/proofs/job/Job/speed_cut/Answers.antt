@@ -36,10 +36,10 @@ returns c =
     let room = c.in_ok-ask.ensures.room in
     let S : Sheets = sheets_of (take n classes) (take n speeds) in
     let S' : Sheets = sheets_of (take n classes) c.cut_cell-cutting.new.cells in
-    let acted-is = cuts Speeds i v j.stage j.sweep S S' _ c.cut_cell-cutting.result c.cut_cell-cutting.ensures.which (ap (λ s. record { classes = S.classes; speeds = s }) c.cut_cell-cutting.ensures.sheet) (c.after_cut.ensures.recut S') in
+    let acted_is = cuts Speeds i v j.stage j.sweep S S' _ c.cut_cell-cutting.result c.cut_cell-cutting.ensures.which (ap (λ s. record { classes = S.classes; speeds = s }) c.cut_cell-cutting.ensures.sheet) (c.after_cut.ensures.recut S') in
     record {
       lent = refl;
       promises = promised (Cut Speeds i v) (held j classes speeds) _ Done
           (λ a b. acts_speeds a b (Cut Speeds i v) j classes speeds (c.in_ok-ask.ensures.is a b) room.0 room.1 n (omega arith) c.after_cut.new.self c.after_cut.ensures.samples Done
-          c.cut_cell-cutting.new.cells (c.cut_cell-cutting.auto.cells ∙ length-take-le n speeds (omega (arith, room.1))) acted-is refl);
+          c.cut_cell-cutting.new.cells (c.cut_cell-cutting.auto.cells ∙ length-take-le n speeds (omega (arith, room.1))) acted_is refl);
     }

@@ -36,10 +36,10 @@ returns c =
     let room = c.in_ok-ask.ensures.room in
     let S : Sheets = sheets_of (take n classes) (take n speeds) in
     let S' : Sheets = sheets_of (take n classes) c.lift_cell-above.new.cells in
-    let acted-is = lifts Speeds i v j.stage j.sweep S S' _ c.lift_cell-above.result c.lift_cell-above.ensures.which (ap (λ s. record { classes = S.classes; speeds = s }) c.lift_cell-above.ensures.sheet) (c.after_lift.ensures.relift S') in
+    let acted_is = lifts Speeds i v j.stage j.sweep S S' _ c.lift_cell-above.result c.lift_cell-above.ensures.which (ap (λ s. record { classes = S.classes; speeds = s }) c.lift_cell-above.ensures.sheet) (c.after_lift.ensures.relift S') in
     record {
       lent = refl;
       promises = promised (Lift Speeds i v) (held j classes speeds) _ Done
           (λ a b. acts_speeds a b (Lift Speeds i v) j classes speeds (c.in_ok-ask.ensures.is a b) room.0 room.1 n (omega arith) c.after_lift.new.self c.after_lift.ensures.samples Done
-          c.lift_cell-above.new.cells (c.lift_cell-above.auto.cells ∙ length-take-le n speeds (omega (arith, room.1))) acted-is refl);
+          c.lift_cell-above.new.cells (c.lift_cell-above.auto.cells ∙ length-take-le n speeds (omega (arith, room.1))) acted_is refl);
     }

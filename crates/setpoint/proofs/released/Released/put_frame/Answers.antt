@@ -6,7 +6,7 @@ pub returns : goal.returns
 returns c =
     let r = c.args.self.now in
     record {
-      size = c.frame-size.ensures;
-      memory = framed r.classes.now r.speeds.now r.alike c.args.out.now c.put.new.out c.put-setpoints.new.out c.header-bytes.result
-          (omega (arith, c.requires)) c.header-bytes.ensures c.put.ensures c.put-setpoints.ensures;
+      size = c.frame_size.ensures;
+      memory = framed r.classes.now r.speeds.now r.alike c.args.out.now c.put.new.out c.put_setpoints.new.out c.header_bytes.result
+          (omega (arith, c.requires)) c.header_bytes.ensures c.put.ensures c.put_setpoints.ensures;
     }
