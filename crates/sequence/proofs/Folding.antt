@@ -1,5 +1,5 @@
 -- A sequence of calls, one more at a time.
-use Rattle.std.proofs.Common.{◌≡◌, ℕ, suc, ◌+◌, ◌<◌, ◌≤◌, min, List, [], ◌∷◌, ◌++◌, length, get_or, take, drop, set, Ok, Err, Result, sym, refl, ap, ◌∙◌, subst, ⊎_elim, append_assoc, add-one, arith, drop-cons}
+use Rattle.std.proofs.Common.{◌≡◌, ℕ, suc, ◌+◌, ◌<◌, min, List, [], ◌∷◌, ◌++◌, length, get_or, take, drop, set, Ok, Err, Result, sym, refl, ap, ◌∙◌, subst, ⊎_elim, append_assoc, add-one, arith, drop-cons}
 use Rattle.std.proofs.lemmas.List.{set_at, take_all, length-take}
 use Rattle.std.proofs.lemmas.Bool.{cases_lt}
 use Rattle.grade.specs.Tops.{class_top, speed_top}
@@ -14,7 +14,7 @@ use Rattle.runs.specs.Calls.{granted, refused, called, answered}
 use Rattle.runs.specs.Runs.{run, answers}
 use Rattle.runs.proofs.Runs.{run_more}
 use Rattle.job.specs.Whole.{setting}
-use Rattle.job.specs.Holding.{Held, count, whole_of, setting_of, room, judged, Led}
+use Rattle.job.specs.Holding.{Held, whole_of, setting_of, room, judged}
 use Rattle.job.specs.Calling.{Holds, Does, Lawful}
 use Rattle.job.proofs.Acting.{holding, staying}
 use Rattle.job.proofs.Lawful.{in_room, reply_in_room, room_still, leads_on, lawful_from}

@@ -1,5 +1,5 @@
 -- What a whole plan promises: a job made of its memory, and a sequence of calls on it.
-use Rattle.std.specs.Prelude.{◌≡◌, ℕ, List, ◌++◌, length, take, drop, Ok, Err, Result}
+use Rattle.std.specs.Prelude.{◌≡◌, List, ◌++◌, length, take, drop, Ok, Err, Result}
 use Rattle.grade.specs.declared.cell.Cell.{Cell}
 use Rattle.grade.specs.declared.class.Class.{Class}
 use Rattle.grade.specs.declared.speed.Speed.{Speed}

@@ -1,7 +1,7 @@
 -- The root is the greatest number whose square fits, and the only one.
 use Rattle.std.proofs.Common.{◌≡◌, ℕ, zero, suc, ◌+◌, ◌*◌, ◌<◌, ◌≤◌, Bool, true, false, cond, leb, refl, ⊎_elim, suc-mul, mul-le-mul, le_antisymm, mul-suc, add-one, arith}
 use Rattle.std.proofs.lemmas.Bool.{cases_lt, leb-true, leb-false}
-use Rattle.setpoint.specs.Roots.{Root, stepped, root}
+use Rattle.setpoint.specs.Roots.{Root, root}
 
 -- a number whose square fits, while the next one's does not, is the greatest
 pub from_next : (w s : ℕ) → s * s ≤ w → w < (s + 1) * (s + 1) → Root w s

@@ -5,7 +5,7 @@ use Rattle.limit.specs.Numbers.{Number, LimitLaw}
 use Rattle.runs.specs.declared.call.Call.{Call}
 use Rattle.runs.specs.declared.stage.Stage.{Stage}
 use Rattle.runs.specs.declared.stage.Stage.TheVariants.{Working, Settled, Impossible}
-use Rattle.runs.specs.Calls.{Verdict, granted}
+use Rattle.runs.specs.Calls.{granted}
 use Rattle.runs.specs.InForce.{in_force}
 use Rattle.runs.specs.Keeping.{Pair, Greatest, own}
 use Rattle.runs.specs.Making.{Start}
