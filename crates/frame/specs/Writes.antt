@@ -49,3 +49,8 @@ pub record Writes (bs out out' : List ℕ) (r : Result ℕ WriteFault) : Type 0 
   pub same_bytes : path_bytes (path_of bs) ≡ bs
   -- what was written, read again, is the same records
   pub same_records : path_read (path_bytes (path_of bs)) ≡ Ok (path_of bs)
+
+-- the number of the question that each fault answers no
+abbrev pub write_question : WriteFault → ℕ
+-- does the memory hold the frame?
+write_question Memory = 72

@@ -1,6 +1,6 @@
 // Writing an accepted frame's records into lent memory.
 ghost use Rattle.std.specs.Prelude.{◌≡◌, ◌≤◌, ◌++◌, length, drop};
-ghost use Rattle.frame.specs.Writes.{Rewritable, Writes};
+ghost use Rattle.frame.specs.Writes.{Rewritable, Writes, write_question};
 
 use super::body::Body;
 use super::layout;
@@ -14,6 +14,20 @@ use words::{put, see_bytes};
 pub enum WriteFault {
     // The memory is shorter than the frame.
     Memory,
+}
+
+// The number of the question about memory.
+const PATH_MEMORY: u8 = 72;
+
+impl WriteFault {
+    /// The number of the question that said no; it has no place in the frame.
+    pub fn number(self) -> u8
+        ensures { result ≡ write_question self }
+    {
+        match self {
+            WriteFault::Memory => PATH_MEMORY,
+        }
+    }
 }
 
 impl PathFrame<'_> {
