@@ -25,8 +25,8 @@ fill-requires-2 g c =
 pub returns : goal.returns
 returns g c =
     let bs = c.args.frame.bytes.now in
-    planned_as (path_of bs) c.samples.result _ _ _ c.args.classes.now c.fill.new.cells c.plan-filled.new.classes c.args.speeds.now c.fill-2.new.cells c.plan-filled.new.speeds _ _ c.plan-filled.result
+    planned_as (path_of bs) c.samples.result _ _ _ c.args.classes.now c.fill.new.cells c.plan_filled.new.classes c.args.speeds.now c.fill-2.new.cells c.plan_filled.new.speeds _ _ c.plan_filled.result
     c.samples.ensures (samples_counted bs c.args.frame.sound)
     (record { front = c.fill.ensures.front; past = c.fill.ensures.past; long = c.fill.ensures.long })
     (record { front = c.fill-2.ensures.front; past = c.fill-2.ensures.past; long = c.fill-2.ensures.long })
-    c.plan-filled.ensures
+    c.plan_filled.ensures

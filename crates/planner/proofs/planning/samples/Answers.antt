@@ -3,7 +3,7 @@ use Rattle.frame.specs.declared.header.Header.{Header}
 use Rattle.frame.proofs.Accepted.{yes'}
 use Rattle.planner.proofs.planning.samples.Goals as goal
 
-pub invariant-of-result : goal.invariant-of-result
-invariant-of-result c =
+pub invariant_of-result : goal.invariant_of-result
+invariant_of-result c =
     let k = (yes' c.args.frame.bytes.now c.args.frame.sound).header in
-    (subst (λ (h : Header). 2 ≤ h.samples) (sym c.header.ensures) k.few, (subst (λ (h : Header). h.samples ≤ 4096) (sym c.header.ensures) k.many, tt))
+    record { least = subst (λ (h : Header). 2 ≤ h.samples) (sym c.header.ensures) k.few; most = subst (λ (h : Header). h.samples ≤ 4096) (sym c.header.ensures) k.many }
