@@ -1,5 +1,5 @@
 -- What a reading of a sample says of it.
-use Rattle.std.proofs.Common.{◌≡◌, ℕ, zero, suc, ◌+◌, ◌*◌, ◌<◌, ◌≤◌, true, leb, List, [], ◌∷◌, length, get_or, Some, None, Ok, Err, Option, Result, sym, refl, ap, ◌∙◌, subst, arith}
+use Rattle.std.proofs.Common.{◌≡◌, ℕ, ◌+◌, ◌*◌, ◌<◌, ◌≤◌, true, leb, List, length, get_or, Some, None, Ok, Err, Option, Result, sym, ap, ◌∙◌, subst, arith}
 use Rattle.grade.specs.Tops.{speed_top}
 use Rattle.record.specs.declared.sample.Sample.{Sample}
 use Rattle.record.specs.declared.sample.SampleWords.{SampleWords}
@@ -9,13 +9,12 @@ use Rattle.record.proofs.RecordTrips.{SampleAsked}
 use Rattle.frame.specs.declared.header.Header.{Header}
 use Rattle.frame.specs.declared.fault.FrameFault.{FrameFault}
 use Rattle.frame.specs.Layout.{samples_at}
-use Rattle.frame.specs.Paths.{Path, header_at, header_of, path_read, accepted}
+use Rattle.frame.specs.Paths.{Path, header_of, path_read, accepted}
 use Rattle.frame.specs.Views.{shown, path_of, nth, CapOf, CapShown}
 use Rattle.frame.proofs.Accepted.{yes'}
 use Rattle.frame.proofs.InPlace.{sample_found}
 use Rattle.sources.specs.Soundness.{nth-slice_index_or}
 use Rattle.sources.proofs.Counted.{samples_counted}
-use Rattle.planner.specs.declared.fault.MakeFault.{MakeFault}
 use Rattle.planner.specs.declared.fault.MakeFault.TheVariants.{Frame, NoClassMemory, NoSpeedMemory}
 use Rattle.planner.specs.Asking.{asked}
 use Rattle.planner.specs.Starts.{no_sample_of, clause_cap, cap_of, SampleWithin}

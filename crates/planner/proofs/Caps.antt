@@ -1,5 +1,5 @@
 -- The cap that a clause gives is one number, and a rank.
-use Rattle.std.proofs.Common.{◌≡◌, ℕ, zero, suc, ◌*◌, ◌^◌, ◌<◌, ◌≤◌, min, Bool, true, false, cond, eqb, ltb, leb, Ok, Err, Result, sym, refl, ap, ◌∙◌, subst, arith}
+use Rattle.std.proofs.Common.{◌≡◌, ℕ, zero, suc, ◌≤◌, min, Bool, true, false, cond, eqb, leb, Ok, sym, refl, ap, ◌∙◌, arith}
 use Rattle.std.proofs.lemmas.Bool.{leb-true, le-leb, eqb-true, eqb-false, cond-true, cond-false}
 use Rattle.caps.specs.Caps.{SpeedCap, BendCap}
 use Rattle.caps.specs.Floats.{bits_of, finite_bits, significand, shift}
@@ -7,7 +7,7 @@ use Rattle.clause.specs.declared.clause.CapClause.{CapClause}
 use Rattle.clause.specs.declared.clause.CapClause.TheVariants.{Free, Straight, Bend, Fixed}
 use Rattle.clause.specs.declared.clause.ClauseWords.{ClauseWords}
 use Rattle.clause.specs.declared.clause.ClauseFault.{ClauseFault}
-use Rattle.clause.specs.declared.clause.ClauseFault.TheVariants.{TopSpeedNotFinite, TopSpeedNegative, CurvatureNotFinite, FixedTooGreat, FirstNotZero, SecondNotZero}
+use Rattle.clause.specs.declared.clause.ClauseFault.TheVariants.{CurvatureNotFinite, FixedTooGreat, FirstNotZero, SecondNotZero}
 use Rattle.clause.specs.Clauses.{ClauseCap, clause_read, speed_read}
 use Rattle.clause.proofs.Questions.{passed, passed_within, chosen}
 use Rattle.grade.specs.Tops.{speed_top}

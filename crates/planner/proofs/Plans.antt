@@ -1,11 +1,10 @@
 -- A plan over memory filled from a path is the path's plan.
-use Rattle.std.proofs.Common.{◌≡◌, ℕ, List, map, length, take, drop, Result, sym, ap, ◌∙◌, subst}
+use Rattle.std.proofs.Common.{◌≡◌, ℕ, List, length, take, drop, Result, sym, ap, ◌∙◌, subst}
 use mathlib.Core.List.{map-map}
 use Rattle.std.proofs.lemmas.List.{length-map}
 use Rattle.grade.specs.declared.cell.Cell.{Cell}
 use Rattle.grade.specs.declared.class.Class.{Class}
 use Rattle.grade.specs.declared.speed.Speed.{Speed}
-use Rattle.grade.specs.Profiles.{Profile}
 use Rattle.grade.specs.Ranks.{class_rank, speed_rank, ranked_all}
 use Rattle.limit.specs.Numbers.{Number}
 use Rattle.runs.specs.declared.call.Answer.{Answer}
@@ -17,7 +16,6 @@ use Rattle.runs.specs.Making.{Start}
 use Rattle.job.specs.declared.job.Job.{Job}
 use Rattle.job.specs.Making.{caps_of, floors_of, handed, start_of}
 use Rattle.sequence.specs.Planning.{Planned}
-use Rattle.record.specs.declared.sample.Sample.{Sample}
 use Rattle.frame.specs.Paths.{Path}
 use Rattle.frame.specs.Views.{path_of}
 use Rattle.motion.specs.SpeedLimits.{speed_limit_number}

@@ -1,5 +1,5 @@
 -- The questions before a making, and the numbers of their refusals.
-use Rattle.std.specs.Prelude.{ℕ, List, Ok, Err, Result, nat_le}
+use Rattle.std.specs.Prelude.{ℕ, List, Ok, Result, nat_le}
 use Rattle.clause.specs.Asking.{ask, within}
 use Rattle.frame.specs.declared.header.Header.{Header}
 use Rattle.frame.specs.declared.refusal.Layer.TheVariants as layer

@@ -1,4 +1,4 @@
-use Rattle.std.proofs.Common.{◌≡◌, ℕ, ◌+◌, ◌<◌, ◌≤◌, List, length, take, drop, sym, refl, ap, ◌∙◌, subst, arith, rules}
+use Rattle.std.proofs.Common.{◌≡◌, ℕ, ◌+◌, ◌<◌, List, length, take, drop, refl, ap, ◌∙◌, subst, arith}
 use Rattle.grade.specs.declared.cell.Cell.{Cell}
 use Rattle.std.proofs.lemmas.List.{take_all, drop-set-lt}
 use Rattle.grade.specs.Ranks.{ranked_all}

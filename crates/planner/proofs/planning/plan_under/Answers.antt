@@ -1,4 +1,4 @@
-use Rattle.std.proofs.Common.{ℕ, List, length, sym, ◌∙◌, subst}
+use Rattle.std.proofs.Common.{ℕ, List, length, sym, subst}
 use Rattle.frame.specs.Views.{path_of}
 use Rattle.sequence.specs.Running.{placed}
 use Rattle.planner.specs.Starts.{start_from}
