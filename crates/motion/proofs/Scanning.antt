@@ -8,7 +8,7 @@ use Rattle.grade.specs.Profiles.{Profile}
 use Rattle.grade.specs.Tops.{speed_top}
 use Rattle.motion.specs.declared.rows.Row.{Row}
 use Rattle.motion.specs.Rows.{row_at, no_row, Sound, SoundRows}
-use Rattle.motion.specs.Torques.{bound, allows_after, allows_before, allows, least, torque}
+use Rattle.motion.specs.Torques.{allows_after, allows_before, allows, least, torque}
 use Rattle.motion.specs.TorquesLemmas.{least_low, least_high, least_none, allows_low}
 
 module _ (h : ℕ) (p : Profile) (i : ℕ) (r : Row) where

@@ -1,5 +1,5 @@
 -- A ramp keeps the rule, and is kept exactly by the profiles that are in step.
-use Rattle.std.specs.Prelude.{◌≡◌, ℕ, ◌+◌, ◌-◌, ◌<◌, ◌≤◌, min, ◌&&◌, ltb, ◌↔◌, List, length, ℤ, pos, negsuc, ◌≤ℤ◌, nat_le, nat_lt, slice_index_or}
+use Rattle.std.specs.Prelude.{◌≡◌, ℕ, ◌+◌, ◌-◌, ◌<◌, ◌≤◌, min, ◌&&◌, ltb, ◌↔◌, List, length, pos, negsuc, ◌≤ℤ◌, nat_le, nat_lt, slice_index_or}
 use Rattle.std.proofs.Common.{ap, arith}
 use Rattle.std.specs.Int.{int_min}
 use Rattle.std.proofs.lemmas.Int.{ints}

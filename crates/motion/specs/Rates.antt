@@ -1,6 +1,6 @@
 -- Rows that bound how fast the rise of a profile may grow: w(i + 1) + w(i − 1) − 2 × w(i) ≤ q at every inner sample.
 -- They are no limit: raising a neighbour can lower what they allow.
-use Rattle.std.specs.Prelude.{ℕ, ◌+◌, ◌-◌, ◌*◌, ◌<◌, ◌≤◌, [], ◌∷◌, length, ℤ, pos, ◌-ℤ◌, ◌<ℤ◌}
+use Rattle.std.specs.Prelude.{ℕ, ◌+◌, ◌-◌, ◌*◌, ◌<◌, ◌≤◌, [], ◌∷◌, length, pos, ◌-ℤ◌, ◌<ℤ◌}
 use Rattle.grade.specs.Profiles.{Profile, rank, AtMost}
 use Rattle.grade.specs.Tops.{speed_top}
 use Rattle.limit.specs.Numbers.{Number, Rule, KeptExactly}
