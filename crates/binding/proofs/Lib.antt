@@ -1,0 +1,8 @@
+pub mod Cells
+pub mod Firsts
+pub mod Laws
+pub mod Leasts
+pub mod Limits
+pub mod Raising
+pub mod Sides
+pub mod Scans
