@@ -1,5 +1,5 @@
 -- A bound of a sample below its floor.
-use Rattle.std.specs.Prelude.{◌≡◌, ℕ, true, cond, ℤ, pos, ◌≤ℤ◌, Some, None, Option}
+use Rattle.std.specs.Prelude.{◌≡◌, ℕ, true, cond, pos, ◌≤ℤ◌, Some, None, Option}
 use Rattle.std.specs.Option.{option_or}
 use Rattle.frame.specs.Paths.{Path}
 use Rattle.runs.specs.declared.stage.Make.{Make}
