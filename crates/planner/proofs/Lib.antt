@@ -2,3 +2,4 @@ pub mod Caps
 pub mod Bounds
 pub mod Fills
 pub mod Plans
+pub mod Makes

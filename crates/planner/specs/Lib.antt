@@ -1,3 +1,4 @@
 pub mod Asking
 pub mod Starts
 pub mod Planning
+pub mod Making

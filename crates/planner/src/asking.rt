@@ -1,6 +1,7 @@
 // The questions before a making: the reader's, then those of memory.
-ghost use Rattle.std.specs.Prelude.{◌≡◌, length};
+ghost use Rattle.std.specs.Prelude.{◌≡◌, length, OnOk};
 ghost use Rattle.planner.specs.Asking.{asked};
+ghost use Rattle.planner.specs.Making.{Granted};
 
 use super::fault::MakeFault;
 use frame::{Header, read};
@@ -12,14 +13,16 @@ pub fn ask(
     classes: &[Cell<Class>],
     speeds: &[Cell<Speed>],
 ) -> Result<Header, MakeFault>
-    ensures { result ≡ asked bytes.now (length classes.now) (length speeds.now) }
+    ensures is { result ≡ asked bytes.now (length classes.now) (length speeds.now) }
+    ensures yes { OnOk result (Granted bytes.now (length classes.now) (length speeds.now)) }
 {
     ask_sizes(bytes, classes.len(), speeds.len())
 }
 
 // The same of memories of so many cells.
 pub(crate) fn ask_sizes(bytes: &[u8], classes: usize, speeds: usize) -> Result<Header, MakeFault>
-    ensures { result ≡ asked bytes.now classes speeds }
+    ensures is { result ≡ asked bytes.now classes speeds }
+    ensures yes { OnOk result (Granted bytes.now classes speeds) }
 {
     let header = read(bytes)?;
     let samples = header.samples as usize;

@@ -6,8 +6,10 @@ mod asking;
 mod cells;
 mod fault;
 mod filling;
+mod making;
 mod planning;
 
 pub use asking::ask;
 pub use fault::MakeFault;
+pub use making::{make, make_or_refuse};
 pub use planning::{plan, plan_under};

@@ -49,7 +49,7 @@ fn plan_filled<C: Limit<Class>, S: Limit<Speed>>(
 }
 
 // How many samples a frame has.
-fn samples(frame: PathFrame<'_>) -> Samples
+pub(crate) fn samples(frame: PathFrame<'_>) -> Samples
     ensures { result.count ≡ (path_of frame.entry.bytes.now).header.samples }
 {
     Samples {
