@@ -1,39 +1,24 @@
 -- A job made of memory filled from a path is the path's.
-use Rattle.std.proofs.Common.{◌≡◌, ℕ, List, [], ◌++◌, map, length, take, drop, Result, sym, refl, ap, ◌∙◌, subst}
-use mathlib.Core.List.{map-map}
-use Rattle.std.proofs.lemmas.List.{length-map}
+use Rattle.std.proofs.Common.{◌≡◌, ℕ, List, [], length, take, drop, sym, ap, ◌∙◌, subst}
 use Rattle.grade.specs.declared.cell.Cell.{Cell}
 use Rattle.grade.specs.declared.class.Class.{Class}
 use Rattle.grade.specs.declared.speed.Speed.{Speed}
-use Rattle.grade.specs.Profiles.{Profile}
 use Rattle.grade.specs.Ranks.{class_rank, speed_rank, ranked_all}
 use Rattle.limit.specs.Numbers.{Number}
-use Rattle.runs.specs.declared.call.Answer.{Answer}
 use Rattle.runs.specs.declared.call.Call.{Call}
-use Rattle.runs.specs.declared.call.Fault.{Fault}
 use Rattle.runs.specs.declared.samples.Samples.{Samples}
-use Rattle.runs.specs.declared.stage.Make.{Make}
-use Rattle.runs.specs.declared.stage.Make.TheVariants.{Classes, Speeds}
-use Rattle.runs.specs.Settings.{Setting}
 use Rattle.runs.specs.Jobs.{Job as Whole}
-use Rattle.runs.specs.Making.{Start, made}
-use Rattle.runs.specs.Runs.{run, answers, after}
-use Rattle.runs.specs.Law.{RunLaw}
+use Rattle.runs.specs.Making.{Start}
+use Rattle.runs.specs.Runs.{after}
 use Rattle.job.specs.declared.job.Job.{Job}
 use Rattle.job.specs.Grades.{class_of, speed_of}
 use Rattle.job.specs.Whole.{setting}
-use Rattle.job.specs.Holding.{Held, held, whole_of, judged, Led}
-use Rattle.job.specs.Calling.{Lawful}
-use Rattle.job.specs.Making.{caps_of, floors_of, handed, start_of, Made}
+use Rattle.job.specs.Holding.{held, whole_of, Led}
+use Rattle.job.specs.Making.{start_of, Made}
 use Rattle.job.proofs.Acting.{pinned}
 use Rattle.job.proofs.Grading.{class_is, speed_is}
-use Rattle.sequence.specs.Running.{Runs}
-use Rattle.record.specs.declared.sample.Sample.{Sample}
 use Rattle.frame.specs.Paths.{Path}
-use Rattle.frame.specs.Views.{path_of}
-use Rattle.sources.specs.Sources.{speed_steps, offsets_of, rows_of, class_number, speed_number}
-use Rattle.planner.specs.declared.fault.MakeFault.{MakeFault}
-use Rattle.planner.specs.Starts.{class_cell, speed_cell, class_sheet_of, speed_sheet_of, caps_from, floors_from, start_from}
+use Rattle.planner.specs.Starts.{class_sheet_of, speed_sheet_of, start_from}
 use Rattle.planner.specs.Making.{Stands, MadeAs}
 use Rattle.planner.proofs.Plans.{Filled, start_is, past_classes, past_speeds}
 
