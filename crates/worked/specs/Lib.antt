@@ -1,1 +1,4 @@
 pub mod LimitExamples
+pub mod CapExamples
+pub mod JobExamples
+pub mod Examples
