@@ -1,5 +1,5 @@
 -- The caps of the examples, by quotients.
-use Rattle.std.proofs.Common.{◌≡◌, ℕ, ◌+◌, ◌*◌, ◌/◌, ◌^◌, ◌<◌, ◌≤◌, min, true, Ok, Err, Result, sym, refl, ap, subst, le_trans, le_of_eq, mul_comm, arith}
+use Rattle.std.proofs.Common.{◌≡◌, ℕ, ◌*◌, ◌/◌, ◌^◌, ◌<◌, ◌≤◌, min, true, Ok, sym, refl, ap, subst, le_trans, le_of_eq, mul_comm, arith}
 use lib.Ieee.{of_bits, binary32}
 use Rattle.caps.specs.Caps.{SpeedCap, BendCap}
 use Rattle.caps.specs.Floats.{bits_of, finite_bits, significand, shift}

@@ -1,5 +1,5 @@
 -- What clauses cap in small cases, as one statement.
-use Rattle.std.specs.Prelude.{◌≡◌, ℕ, ◌*◌, ◌^◌, Ok, Err, Result}
+use Rattle.std.specs.Prelude.{◌≡◌, ℕ, ◌*◌, ◌^◌, Ok, Result}
 use Rattle.caps.specs.Floats.{significand, shift}
 use Rattle.clause.specs.declared.clause.ClauseWords.{ClauseWords}
 use Rattle.clause.specs.declared.clause.ClauseFault.{ClauseFault}

@@ -1,5 +1,5 @@
 -- A path of three samples, from its frame's bytes to its settled job, as one statement.
-use Rattle.std.specs.Prelude.{◌≡◌, ℕ, ◌+◌, ◌*◌, List, [], ◌∷◌, ℤ, pos, Ok, Err, sum, Result}
+use Rattle.std.specs.Prelude.{◌≡◌, ℕ, ◌+◌, ◌*◌, List, [], ◌∷◌, ℤ, pos, Ok, sum}
 use Rattle.grade.specs.Tops.{speed_top}
 use Rattle.clause.specs.declared.clause.CapClause.TheVariants.{Fixed}
 use Rattle.record.specs.declared.gap.Gap.{Gap}
@@ -8,9 +8,7 @@ use Rattle.frame.specs.Paths.{Path, path_read}
 use Rattle.sources.specs.Sources.{class_number, speed_number}
 use Rattle.runs.specs.declared.call.Answer.{Answer}
 use Rattle.runs.specs.declared.call.Answer.TheVariants.{Advanced}
-use Rattle.runs.specs.declared.call.Call.{Call}
 use Rattle.runs.specs.declared.call.Call.TheVariants.{Advance}
-use Rattle.runs.specs.declared.stage.Make.{Make}
 use Rattle.runs.specs.declared.stage.Make.TheVariants.{Classes, Speeds}
 use Rattle.runs.specs.declared.stage.Stage.TheVariants.{Working, Settled}
 use Rattle.runs.specs.Jobs.{Job}
