@@ -1,0 +1,8 @@
+// The program once more, for the gate: it plans the five-sample path, and what it prints is compared.
+#![tactic(auto)]
+
+use bench::run_command;
+
+fn main(rt: HostRuntime) -> anyhow::Result<()> {
+    run_command(&rt)
+}
