@@ -1,5 +1,5 @@
 #!/usr/bin/env python3
-"""Writes a path frame of 4096 samples and 8192 torque rows, for measurements (docs/SPEED.md).
+"""Writes a path frame of 4096 samples and 8192 torque rows, for measurements.
 
 Run from the top of the repository: python3 tools/make_long_path.py OUT [SEED]
 """

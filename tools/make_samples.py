@@ -1,5 +1,5 @@
 #!/usr/bin/env python3
-"""Makes the sample frames under samples/ from the format in docs/FORMATS.md, independently of the library.
+"""Makes the sample frames from the format in docs/FORMATS.md, independently of the library, wherever they are kept.
 
 Run from the top of the repository: python3 tools/make_samples.py
 """
@@ -7,7 +7,12 @@ import struct
 from pathlib import Path
 
 MOST = 2147483647
-OUT = Path(__file__).resolve().parent.parent / "crates" / "furqyzet" / "data" / "samples"
+TOP = Path(__file__).resolve().parent.parent
+SAMPLES = TOP / "samples"
+# where the gate's programs read them
+FURQYZET = TOP / "crates" / "furqyzet" / "data" / "samples"
+BENCH = TOP / "crates" / "benchrun" / "data" / "samples"
+PLAN = TOP / "crates" / "planrun" / "data"
 
 FREE, STRAIGHT, BEND, FIXED = range(4)
 
@@ -45,7 +50,6 @@ def changed(data, at, value):
 
 
 def main():
-    OUT.mkdir(parents=True, exist_ok=True)
     five = frame(
         [sample(clause(FIXED if i in (0, 4) else FREE), class_cap, q=0 if i in (0, 4) else 4000)
          for i, class_cap in enumerate((1, 7, 2, 7, 1))],
@@ -61,6 +65,14 @@ def main():
         [sample(clause(FIXED, 1000), q=0 if i in (0, 3) else -5) for i in range(4)],
         [gap(7, 7, 400, 500)] * 3,
         [row(0, 3, 1, 1, -3, 4), row(0, -7, 2, 0, -100, 100), row(2, 16777216, 0, -16777216, -16777216, 16777216)])
+    # the ramp allows sample 1 at most 100 above sample 0, and its floor asks for 500
+    steep = frame([sample(clause(FIXED, 0)), sample(clause(FREE), speed_floor=500, q=MOST), sample(clause(FREE))],
+                  [gap(up=100), gap()])
+    # class 1 grants 4096, and the speed floor of sample 2 asks for 5000
+    slow_class = frame([sample(clause(FREE), 2), sample(clause(FREE), 1, q=MOST), sample(clause(FREE), 7, speed_floor=5000)],
+                       [gap(1, 1), gap(0, 7)])
+    # the speed floor of sample 1 lies above its cap
+    low_cap = frame([sample(clause(FREE)), sample(clause(FIXED, 9), speed_floor=10)], [gap()])
     files = {
         "five.path": five,
         "three.path": three,
@@ -71,9 +83,13 @@ def main():
         "bad-gap.path": changed(five, 15 + 20 * 5 + 12 * 3 + 3, 1),
         "bad-torque.path": changed(torque, 15 + 20 * 4 + 12 * 3 + 24 * 2 + 1, 9),
     }
-    for name, data in files.items():
-        (OUT / name).write_bytes(data)
-        print(f"{name}: {len(data)} bytes")
+    impossible = {"steep.path": steep, "slow-class.path": slow_class, "low-cap.path": low_cap}
+    for folder, kept in ((SAMPLES, files), (FURQYZET, files), (BENCH, files | impossible), (PLAN, {"five.path": five})):
+        folder.mkdir(parents=True, exist_ok=True)
+        for name, data in kept.items():
+            (folder / name).write_bytes(data)
+            print(f"{(folder / name).relative_to(TOP)}: {len(data)} bytes")
 
 
-main()
+if __name__ == "__main__":
+    main()
