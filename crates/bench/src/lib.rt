@@ -18,13 +18,13 @@ mod rewriting;
 mod script;
 mod table;
 
-use anyhow::anyhow;
 use checking::check;
 use options::plan_options;
 use planning::plan_file;
 use replaying::replay;
 use rewriting::rewrite_file;
 use std::env;
+use std::process::ExitCode;
 
 const VERSION: &str = "furqyzet 0.2.0";
 
@@ -49,11 +49,12 @@ pub enum Ended {
     Failed,
 }
 
-// Does what the program's arguments ask for: an error is the status 1, and its reason is printed.
-pub fn run_command(rt: &HostRuntime) -> anyhow::Result<()> {
+// Does what the program's arguments ask for: the status is 1 where that failed for a reason that is printed already. An
+// error is printed by `main`, and is the status 1 too.
+pub fn run_command(rt: &HostRuntime) -> anyhow::Result<ExitCode> {
     match command(rt)? {
-        Ended::Done => Ok(()),
-        Ended::Failed => Err(anyhow!("refused")),
+        Ended::Done => Ok(ExitCode::SUCCESS),
+        Ended::Failed => Ok(ExitCode::FAILURE),
     }
 }
 

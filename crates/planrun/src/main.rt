@@ -2,7 +2,8 @@
 #![tactic(auto)]
 
 use bench::run_command;
+use std::process::ExitCode;
 
-fn main(rt: HostRuntime) -> anyhow::Result<()> {
+fn main(rt: HostRuntime) -> anyhow::Result<ExitCode> {
     run_command(&rt)
 }
