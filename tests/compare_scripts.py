@@ -15,10 +15,9 @@ import tempfile
 from collections import Counter
 from pathlib import Path
 
-from compare_frames import TOP, answer as path_answer, damaged, refusal
-from planner_model import CLASSES, SPEEDS, TABLE, TOPS, Job, Refused, path
+from compare_frames import answer as path_answer, damaged, refusal
+from planner_model import CLASSES, PROGRAM, SPEEDS, TABLE, TOPS, Job, Refused, path
 
-PROGRAM = TOP / "crates" / "benchrun" / "out" / "benchrun"
 HUGE = 2**64 - 1
 PATIENCE = 300
 FILLED = b"\xa5"
