@@ -9,12 +9,12 @@ mod replaying;
 mod rewriting;
 mod script;
 
-use anyhow::anyhow;
 use checking::check;
 use planning::plan_file;
 use replaying::replay;
 use rewriting::rewrite_file;
 use std::env;
+use std::process::ExitCode;
 
 const VERSION: &str = "furqyzet 0.1.0";
 
@@ -36,10 +36,10 @@ pub enum Ended {
     Failed,
 }
 
-fn main(rt: HostRuntime) -> anyhow::Result<()> {
+fn main(rt: HostRuntime) -> anyhow::Result<ExitCode> {
     match command(&rt)? {
-        Ended::Done => Ok(()),
-        Ended::Failed => Err(anyhow!("refused")),
+        Ended::Done => Ok(ExitCode::SUCCESS),
+        Ended::Failed => Ok(ExitCode::FAILURE),
     }
 }
 
