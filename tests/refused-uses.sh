@@ -1,8 +1,7 @@
 #!/usr/bin/env bash
 # Two uses of a job that the compiler refuses: each text of docs/refused is proved without its marked line, and with that
 # line it is refused under the name that the text gives. Prints the advice for each. The work is done on a copy of the crates
-# outside the checkout, without their edits; of the crates below, what an earlier rt ci proved on this machine is not proved
-# again.
+# outside the checkout, without their edits; what checks on this machine kept of the crates below is not proved again.
 set -u -o pipefail
 cd "$(dirname "$0")/.." || exit 2
 work=$(mktemp -d) || exit 2
@@ -14,7 +13,7 @@ mkdir -p "$work/crates/$crate/src"
 
 status=0
 complain() { echo "refused-uses: $1"; status=1; }
-check() { (cd "$work" && rt ci "$crate") >"$work/log" 2>&1; }
+check() { (cd "$work/crates/$crate" && rt check) >"$work/log" 2>&1; }
 
 for text in docs/refused/*.rt.txt; do
     use=$(basename "$text" .rt.txt)
