@@ -36,8 +36,10 @@ def wanted(data):
     counts = (0, 0) if job.is_over() else job.advance(LONGEST)
     if job.state == "impossible":
         return "impossible", job.found, sentence(*job.clash())
+    if not job.is_over():
+        return None
     rows = [(i, *values, job.held_by(CLASSES, i), job.held_by(SPEEDS, i)) for i, values in enumerate(zip(*job.values))]
-    return ("settled", job.n, *counts, rows) if job.is_over() else None
+    return "settled", job.n, *counts, rows
 
 
 def matches(pattern, lines):
