@@ -15,13 +15,13 @@ const KIND_BEND: u8 = 2;
 pub const KIND_FIXED: u8 = 3;
 
 // A bend: a top speed in m/s and a signed curvature in 1/m.
-#[derive(Clone, Copy)]
+#[derive(Clone, Copy, Debug, PartialEq)]
 pub struct Bend {
     pub top_speed: f32,
     pub curvature: f32,
 }
 
-#[derive(Clone, Copy)]
+#[derive(Clone, Copy, Debug, PartialEq)]
 pub enum CapClause {
     // No bound but the greatest squared speed.
     Free,
@@ -33,7 +33,7 @@ pub enum CapClause {
 }
 
 // A clause as it lies in a sample: its kind and two numbers.
-#[derive(Clone, Copy)]
+#[derive(Clone, Copy, Debug, PartialEq, Eq)]
 pub struct ClauseWords {
     pub kind: u8,
     pub first: u32,
@@ -41,7 +41,7 @@ pub struct ClauseWords {
 }
 
 // A number that does not fit the clause's kind.
-#[derive(Clone, Copy)]
+#[derive(Clone, Copy, Debug, PartialEq, Eq)]
 pub enum ClauseFault {
     TopSpeedNotFinite,
     TopSpeedNegative,

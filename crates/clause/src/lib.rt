@@ -3,5 +3,6 @@
 
 mod bits;
 mod clause;
+mod explaining;
 
 pub use clause::{Bend, CapClause, ClauseFault, ClauseWords, KIND_FIXED, read_clause};

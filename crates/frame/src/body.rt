@@ -4,7 +4,7 @@ ghost use Rattle.frame.specs.Layout.{frame_size_of};
 
 use super::header::Header;
 
-#[derive(Clone, Copy)]
+#[derive(Clone, Copy, Debug, PartialEq, Eq)]
 pub struct Body<'a> {
     pub bytes: &'a [u8],
     pub header: Header,

@@ -1,5 +1,5 @@
 // What a frame's header tells of the path.
-#[derive(Clone, Copy)]
+#[derive(Clone, Copy, Debug, PartialEq, Eq)]
 pub struct Header {
     // How many samples the path has, 2 to 4096.
     pub samples: u16,

@@ -6,9 +6,10 @@ ghost use Rattle.frame.specs.Refusals.{framed, recorded};
 use super::fault::FrameFault;
 use super::layout;
 use record::Asked;
+use std::fmt;
 
 /// What a question is about.
-#[derive(Clone, Copy)]
+#[derive(Clone, Copy, Debug, PartialEq, Eq)]
 pub enum Layer {
     Frame,
     Sample,
@@ -17,8 +18,20 @@ pub enum Layer {
     Memory,
 }
 
+impl fmt::Display for Layer {
+    fn fmt<W: fmt::Write>(&self, f: &mut fmt::Formatter<W>) -> fmt::Result {
+        f.write_str(match self {
+            Layer::Frame => "frame",
+            Layer::Sample => "sample",
+            Layer::Gap => "gap",
+            Layer::Torque => "torque",
+            Layer::Memory => "memory",
+        })
+    }
+}
+
 /// The question that said no: its layer, its number, and the offset from byte 0 of the first failing field.
-#[derive(Clone, Copy)]
+#[derive(Clone, Copy, Debug, PartialEq, Eq)]
 pub struct Refusal {
     pub layer: Layer,
     pub number: u8,

@@ -3,7 +3,7 @@ ghost use Rattle.std.specs.Prelude.{◌≡◌, true};
 ghost use Rattle.frame.specs.Paths.{accepted};
 
 /// An accepted path frame. `read` asks the questions; after its yes this view hands out the records.
-#[derive(Clone, Copy)]
+#[derive(Clone, Copy, Debug, PartialEq, Eq)]
 pub struct PathFrame<'a> {
     pub(crate) bytes: &'a [u8],
     ghost sound: { accepted bytes.now ≡ true },

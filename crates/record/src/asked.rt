@@ -9,7 +9,7 @@ use super::sample::SampleFault;
 use clause::ClauseFault;
 
 // A question's number and the failing field's offset from the record's first byte.
-#[derive(Clone, Copy)]
+#[derive(Clone, Copy, Debug, PartialEq, Eq)]
 pub struct Asked {
     pub number: u8,
     pub offset: usize,

@@ -1,5 +1,5 @@
 // A fault of one record among many of its kind.
-#[derive(Clone, Copy)]
+#[derive(Clone, Copy, Debug, PartialEq, Eq)]
 pub struct RecordFault<F> {
     // The record's number among them, from 0.
     pub index: usize,

@@ -6,7 +6,7 @@ use super::layout::{CLASS_TOP, GAP_DOWN, GAP_FALL, GAP_RISE, GAP_SIZE, GAP_UP, G
 use caps::MOST;
 use words::{be16, be32};
 
-#[derive(Clone, Copy)]
+#[derive(Clone, Copy, Debug, PartialEq, Eq)]
 pub struct Gap {
     // Of classes, over the gap in the path's direction.
     pub rise: u8,
@@ -17,13 +17,13 @@ pub struct Gap {
 }
 
 // A gap as its record lies in the frame.
-#[derive(Clone, Copy)]
+#[derive(Clone, Copy, Debug, PartialEq, Eq)]
 pub struct GapWords {
     pub gap: Gap,
     pub zero: u16,
 }
 
-#[derive(Clone, Copy)]
+#[derive(Clone, Copy, Debug, PartialEq, Eq)]
 pub enum GapFault {
     Rise,
     Fall,

@@ -2,6 +2,7 @@
 #![tactic(auto)]
 
 mod asked;
+mod explaining;
 mod fault;
 mod gap;
 pub mod layout;

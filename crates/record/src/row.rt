@@ -8,7 +8,7 @@ use super::layout::{
 };
 use words::{be16, be32};
 
-#[derive(Clone, Copy)]
+#[derive(Clone, Copy, Debug, PartialEq, Eq)]
 pub struct TorqueRow {
     pub gap: u16,
     pub d: i32,
@@ -19,7 +19,7 @@ pub struct TorqueRow {
 }
 
 // A torque row as its record lies in the frame, its signed numbers as bits.
-#[derive(Clone, Copy)]
+#[derive(Clone, Copy, Debug, PartialEq, Eq)]
 pub struct RowWords {
     pub gap: u16,
     pub zero: u16,
@@ -30,7 +30,7 @@ pub struct RowWords {
     pub hi: u32,
 }
 
-#[derive(Clone, Copy)]
+#[derive(Clone, Copy, Debug, PartialEq, Eq)]
 pub enum RowFault {
     // There is no such gap.
     Gap,
@@ -53,7 +53,7 @@ pub enum RowFault {
 }
 
 // What stands around a row: how many samples the path has, its spacing, and the gap of the row before (0 before the first).
-#[derive(Clone, Copy)]
+#[derive(Clone, Copy, Debug, PartialEq, Eq)]
 pub struct RowPlace {
     pub samples: u16,
     pub spacing: u16,

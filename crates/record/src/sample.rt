@@ -13,7 +13,7 @@ use clause::{CapClause, ClauseFault, ClauseWords, KIND_FIXED, read_clause};
 use words::be32;
 
 // A sample as its record lies in the frame.
-#[derive(Clone, Copy)]
+#[derive(Clone, Copy, Debug, PartialEq, Eq)]
 pub struct SampleWords {
     pub clause: ClauseWords,
     pub class_cap: u8,
@@ -23,7 +23,7 @@ pub struct SampleWords {
     pub q: u32,
 }
 
-#[derive(Clone, Copy)]
+#[derive(Clone, Copy, Debug, PartialEq)]
 pub struct Sample {
     pub clause: CapClause,
     pub class_cap: u8,
@@ -34,7 +34,7 @@ pub struct Sample {
     pub q: i32,
 }
 
-#[derive(Clone, Copy)]
+#[derive(Clone, Copy, Debug, PartialEq, Eq)]
 pub enum SampleFault {
     // The kind is none of 0 to 3.
     Kind,
