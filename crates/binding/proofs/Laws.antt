@@ -1,9 +1,9 @@
 -- The laws of binding constraints and clashes.
-use Rattle.std.proofs.Common.{◌≡◌, ℕ, ◌+◌, ◌<◌, ◌≤◌, true, false, ltb, ◌⊎◌, List, [], ◌∷◌, length, ℤ, pos, ◌≤ℤ◌, ◌<ℤ◌, is_some, Some, None, Option, sym, refl, ap, ◌∙◌, ⊎_elim, arith}
+use Rattle.std.proofs.Common.{◌≡◌, ℕ, ◌+◌, ◌<◌, ◌≤◌, true, false, ltb, ◌⊎◌, List, [], ◌∷◌, length, ℤ, pos, ◌≤ℤ◌, ◌<ℤ◌, Some, None, Option, sym, refl, ap, ◌∙◌, ⊎_elim, arith}
 use Rattle.std.specs.Int.{int_min}
 use Rattle.std.specs.Option.{option_or}
 use Rattle.std.proofs.lemmas.Int.{ints, clamps, by_lt_z}
-use Rattle.std.proofs.lemmas.Bool.{cond-true, cond-false, lt-ltb, le-ltb, ltb-true, and_parts, and_from, and_left, and_right, false≢true}
+use Rattle.std.proofs.lemmas.Bool.{cond-true, cond-false, lt-ltb, le-ltb, ltb-true, and_parts, and_from, and_left, and_right}
 use Rattle.std.proofs.lemmas.List.{length-map}
 use Rattle.grade.specs.declared.cell.Cell.{Cell}
 use Rattle.grade.specs.declared.class.Class.{Class}
@@ -27,8 +27,8 @@ use Rattle.binding.specs.declared.bound.Bound.{Bound}
 use Rattle.binding.specs.declared.bound.Bound.TheVariants.{Cap, Class as ByClass, RampBefore, RampAfter, Average, TorqueRow}
 use Rattle.binding.specs.declared.bound.Clash.{Clash}
 use Rattle.binding.specs.declared.bound.Found.{Found}
-use Rattle.binding.specs.declared.question.Question.TheVariants.{Reaches, FallsShort}
-use Rattle.binding.specs.Binding.{inside, bound_in_of, binding, bounds_in, HoldGreatest, Binds}
+use Rattle.binding.specs.declared.question.Question.TheVariants.{Reaches}
+use Rattle.binding.specs.Binding.{inside, bound_in_of, bound_of, binding, bounds_in, HoldGreatest, Binds}
 use Rattle.binding.specs.Bounds.{granted, allowed, rows_from, bounds_of, least_of, number_on, together}
 use Rattle.binding.specs.Clashing.{clash_in_of, clash_of, clashing, Clashes}
 use Rattle.binding.specs.Questions.{first}
@@ -72,16 +72,6 @@ leaves v c g n h = (omega (arith, ints, clamps), omega (arith, ints, clamps), om
 
 reaching : (v c g : ℕ) (n : ℤ) → v ≤ c → v ≤ g → pos v ≤ℤ n → int_min (pos c) (int_min (pos g) n) ≤ℤ pos v → pos v ≡ int_min (pos c) (int_min (pos g) n)
 reaching v c g n a b d h = omega (arith, ints, clamps)
-
--- ---- what the code found
-
-found_some : (m : Make) (x : ℕ) (o : Option Found) (r : Option Clash) → is_some o ≡ true → option_or (clash_in_of m x o) r ≡ clash_in_of m x o
-found_some m x None r e = absurd (false≢true e)
-found_some m x (Some f) r e = refl
-
-found_none : (m : Make) (x : ℕ) (o : Option Found) (r : Option Clash) → is_some o ≡ false → option_or (clash_in_of m x o) r ≡ r
-found_none m x None r e = refl
-found_none m x (Some f) r e = absurd (false≢true (sym e))
 
 module _ (path : Path) (classes : List (Cell Class)) (speeds : List (Cell Speed)) (i : ℕ) where
   abbrev S : Sheets
@@ -165,41 +155,41 @@ module _ (path : Path) (classes : List (Cell Class)) (speeds : List (Cell Speed)
   there : {G : Type 0} (rank : G → ℕ) (cells : List (Cell G)) → ltb i (length (ranked_all rank cells)) ≡ ltb i (length cells)
   there rank cells = ap (ltb i) (length-map cells (ranked rank))
 
-  pub inside_classes : i < length classes → inside S Classes i ≡ true
+  inside_classes : i < length classes → inside S Classes i ≡ true
   inside_classes h = there class_rank classes ∙ lt-ltb i (length classes) h
 
-  pub inside_speeds : i < length classes → i < length speeds → inside S Speeds i ≡ true
+  inside_speeds : i < length classes → i < length speeds → inside S Speeds i ≡ true
   inside_speeds h k = and_from _ _ (inside_classes h) (there speed_rank speeds ∙ lt-ltb i (length speeds) k)
 
-  pub outside_classes : length classes ≤ i → inside S Classes i ≡ false
+  outside_classes : length classes ≤ i → inside S Classes i ≡ false
   outside_classes h = there class_rank classes ∙ le-ltb i (length classes) h
 
-  pub outside_speeds : (length classes ≤ i) ⊎ (length speeds ≤ i) → inside S Speeds i ≡ false
+  outside_speeds : (length classes ≤ i) ⊎ (length speeds ≤ i) → inside S Speeds i ≡ false
   outside_speeds = ⊎_elim (λ h. and_left (inside S Classes i) _ (outside_classes h)) (λ h. and_right (inside S Classes i) _ (there speed_rank speeds ∙ le-ltb i (length speeds) h))
 
-  pub not_there : (m : Make) → inside S m i ≡ false → Binds path S m i None
-  not_there m e = binds m None (sym (cond-false (inside S m i) _ None e))
+  pub no_speed : (o : Option Bound) → o ≡ None → (length classes ≤ i) ⊎ (length speeds ≤ i) → Binds path S Speeds i o
+  no_speed o e h = binds Speeds o (e ∙ sym (cond-false (inside S Speeds i) (bound_of path S Speeds i) None (outside_speeds h)))
 
-  pub no_clash_there : inside S Speeds i ≡ false → Clashes path S i None
-  no_clash_there e = clashes None (sym (cond-false (inside S Speeds i) _ None e))
+  pub no_clash_there : (o : Option Clash) → o ≡ None → (length classes ≤ i) ⊎ (length speeds ≤ i) → Clashes path S i o
+  no_clash_there o e h = clashes o (e ∙ sym (cond-false (inside S Speeds i) _ None (outside_speeds h)))
 
-  -- o is what was found with the value v
-  pub bound_found : (m : Make) (v : ℕ) (o : Option Found) → inside S m i ≡ true → v ≡ (cell (sheet S m) i).value → o ≡ first (Reaches v) (allowed path S m i) (bounds_of path m)
-      → bound_in_of o ≡ binding path S m i
-  bound_found m v o t e d =
-      ap bound_in_of (d ∙ ap (λ w. first (Reaches w) (allowed path S m i) (bounds_of path m)) e) ∙ sym (cond-true (inside S m i) _ None t)
+  -- at a place that has the path, the sheets and the number
+  module _ (p : Path) (cs : List (Cell Class)) (ss : List (Cell Speed)) (j : ℕ) (p_is : p ≡ path) (cs_is : cs ≡ classes) (ss_is : ss ≡ speeds) (j_is : j ≡ i) (l : j < length cs) where
+    in_classes : inside S Classes i ≡ true
+    in_classes = inside_classes (omega (arith, ap length cs_is))
 
-  -- o is what was found with the floor x
-  clash_found : (m : Make) (x : ℕ) (o : Option Found) → x ≡ (cell (sheet S m) i).floor → o ≡ first (FallsShort x) (allowed path S m i) (bounds_of path m) → clash_in_of m x o ≡ clash_of path S m i
-  clash_found m x o e d = ap (clash_in_of m x) d ∙ ap (λ w. clash_in_of m w (first (FallsShort w) (allowed path S m i) (bounds_of path m))) e
+    in_speeds : j < length ss → inside S Speeds i ≡ true
+    in_speeds k = inside_speeds (omega (arith, ap length cs_is)) (omega (arith, ap length ss_is))
 
-  module _ (t : inside S Speeds i ≡ true) (x : ℕ) (o : Option Found) (e : x ≡ (cell (sheet S Classes) i).floor) (d : o ≡ first (FallsShort x) (allowed path S Classes i) (bounds_of path Classes)) where
-    whole : option_or (clash_in_of Classes x o) (clash_of path S Speeds i) ≡ clashing path S i
-    whole = ap (λ r. option_or r (clash_of path S Speeds i)) (clash_found Classes x o e d) ∙ sym (cond-true (inside S Speeds i) _ None t)
+    here : {X : Type 0} (f : Path → List (Cell Class) → List (Cell Speed) → ℕ → X) → f p cs ss j ≡ f path classes speeds i
+    here f = ap (λ x. f x cs ss j) p_is ∙ ap (λ x. f path x ss j) cs_is ∙ ap (λ x. f path classes x j) ss_is ∙ ap (f path classes speeds) j_is
 
-    pub clash_in_classes : is_some o ≡ true → clash_in_of Classes x o ≡ clashing path S i
-    clash_in_classes s = sym (found_some Classes x o (clash_of path S Speeds i) s) ∙ whole
+    pub class_there : (o : Option Bound) → o ≡ bound_of p (sheets_of cs ss) Classes j → Binds path S Classes i o
+    class_there o e = binds Classes o (e ∙ here (λ a x y k. bound_of a (sheets_of x y) Classes k) ∙ sym (cond-true (inside S Classes i) _ None in_classes))
 
-    pub clash_in_speeds : is_some o ≡ false → (y : ℕ) (p : Option Found) → y ≡ (cell (sheet S Speeds) i).floor → p ≡ first (FallsShort y) (allowed path S Speeds i) (bounds_of path Speeds)
-        → clash_in_of Speeds y p ≡ clashing path S i
-    clash_in_speeds n y p k g = clash_found Speeds y p k g ∙ sym (found_none Classes x o (clash_of path S Speeds i) n) ∙ whole
+    pub speed_there : j < length ss → (o : Option Bound) → o ≡ bound_of p (sheets_of cs ss) Speeds j → Binds path S Speeds i o
+    speed_there k o e = binds Speeds o (e ∙ here (λ a x y k. bound_of a (sheets_of x y) Speeds k) ∙ sym (cond-true (inside S Speeds i) _ None (in_speeds k)))
+
+    pub clash_there : j < length ss → (o : Option Clash) → o ≡ option_or (clash_of p (sheets_of cs ss) Classes j) (clash_of p (sheets_of cs ss) Speeds j) → Clashes path S i o
+    clash_there k o e =
+        clashes o (e ∙ here (λ a x y n. option_or (clash_of a (sheets_of x y) Classes n) (clash_of a (sheets_of x y) Speeds n)) ∙ sym (cond-true (inside S Speeds i) _ None (in_speeds k)))

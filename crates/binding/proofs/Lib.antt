@@ -4,5 +4,5 @@ pub mod Laws
 pub mod Leasts
 pub mod Limits
 pub mod Raising
-pub mod Sides
 pub mod Scans
+pub mod Sides

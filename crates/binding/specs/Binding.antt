@@ -24,8 +24,12 @@ bound_in_of None = None
 bound_in_of (Some f) = Some f.bound
 
 -- the first bound of a sample that allows just its value
+abbrev pub bound_of : Path → Sheets → Make → ℕ → Option Bound
+bound_of path S m i = bound_in_of (first (Reaches (cell (sheet S m) i).value) (allowed path S m i) (bounds_of path m))
+
+-- the same, where there is such a sample
 abbrev pub binding : Path → Sheets → Make → ℕ → Option Bound
-binding path S m i = cond (inside S m i) (bound_in_of (first (Reaches (cell (sheet S m) i).value) (allowed path S m i) (bounds_of path m))) None
+binding path S m i = cond (inside S m i) (bound_of path S m i) None
 
 -- the caps and floors that the cells hold
 abbrev pub bounds_in : Sheets → Bounds

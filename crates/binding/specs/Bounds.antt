@@ -1,9 +1,10 @@
 -- The bounds of a sample's value, in their order, and the number that each allows: a rank, or −1 where nothing fits.
-use Rattle.std.specs.Prelude.{ℕ, zero, suc, List, [], ◌∷◌, ◌++◌, length, ℤ, pos}
+use Rattle.std.specs.Prelude.{◌≡◌, ℕ, zero, suc, List, [], ◌∷◌, ◌++◌, length, ℤ, pos}
 use Rattle.std.specs.Int.{int_min}
 use Rattle.grade.specs.Profiles.{Profile}
-use Rattle.grade.specs.Tops.{class_top}
+use Rattle.grade.specs.Tops.{class_top, speed_top}
 use Rattle.limit.specs.Numbers.{Number}
+use Rattle.motion.specs.declared.rows.Row.{Row}
 use Rattle.motion.specs.declared.steps.Step.{Step}
 use Rattle.motion.specs.Averages.{average}
 use Rattle.motion.specs.Ramps.{before_allows, after}
@@ -83,3 +84,18 @@ number_on path m = limit_of (class_number path) (speed_number path) m
 -- what sample i may at most be, the others as they are: the smallest of its cap, what its class grants and what its limit allows
 abbrev pub together : Path → Sheets → Make → ℕ → ℤ
 together path S m i = int_min (pos (cell (sheet S m) i).cap) (int_min (pos (granted S m i)) (number_on path m (own S m) i))
+
+-- ---- the numbers that a limit's parts give
+
+-- f has the numbers of the cap and of a ramp's two halves
+pub record RampNumbers (top cap : ℕ) (steps : List Step) (p : Profile) (i : ℕ) (f : Bound → ℤ) : Type 0 where
+  pub cap_is : f Cap ≡ pos cap
+  pub before_is : f RampBefore ≡ before_allows top steps p i
+  pub after_is : f RampAfter ≡ after top steps p i
+
+-- and those of a squared speed's other bounds: what its class grants, the average and the rows
+pub record SpeedNumbers (cap grant : ℕ) (steps : List Step) (qs : List ℤ) (h : ℕ) (rows : List Row) (p : Profile) (i : ℕ) (f : Bound → ℤ) : Type 0 where
+  pub ramp : RampNumbers speed_top cap steps p i f
+  pub class_is : f Class ≡ pos grant
+  pub average_is : f Average ≡ average qs p i
+  pub rows_are : (k : ℕ) → f (TorqueRow k) ≡ allows h p i (row_at rows k)

@@ -2,7 +2,7 @@
 use runs::Make;
 
 /// What can hold a value down.
-#[derive(Clone, Copy)]
+#[derive(Clone, Copy, Debug, PartialEq, Eq)]
 pub enum Bound {
     // The cap in the sample's cell.
     Cap,
@@ -26,7 +26,7 @@ pub(crate) struct Found {
 }
 
 /// A bound below a floor.
-#[derive(Clone, Copy)]
+#[derive(Clone, Copy, Debug, PartialEq, Eq)]
 pub struct Clash {
     pub make: Make,
     pub bound: Bound,

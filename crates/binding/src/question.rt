@@ -7,6 +7,7 @@ ghost use Rattle.binding.specs.Questions.{says, judged};
 use super::bound::{Bound, Found};
 use grade::Grade;
 
+// An enum and no closure: a question is asked in two ways, of a number and of all numbers from one on.
 #[derive(Clone, Copy)]
 pub(crate) enum Question {
     // Is it this value?
@@ -19,11 +20,9 @@ impl Question {
     fn says(self, most: Option<u32>) -> bool
         ensures { result ≡ says self (number_of (λ n. n) most) }
     {
-        match (self, most) {
-            (Question::Reaches(value), Some(most)) => most == value,
-            (Question::Reaches(_), None) => false,
-            (Question::FallsShort(floor), Some(most)) => most < floor,
-            (Question::FallsShort(_), None) => true,
+        match self {
+            Question::Reaches(value) => most.is_some_and(|most| most == value),
+            Question::FallsShort(floor) => most.is_none_or(|most| most < floor),
         }
     }
 
@@ -31,11 +30,10 @@ impl Question {
     pub(crate) fn is_past(self, least: Option<u32>) -> bool
         ensures { result ≡ true → (z : ℤ) → number_of (λ n. n) least ≤ℤ z → says self z ≡ false }
     {
-        match (self, least) {
-            (_, None) => false,
-            (Question::Reaches(value), Some(least)) => value < least,
-            (Question::FallsShort(floor), Some(least)) => floor <= least,
-        }
+        least.is_some_and(|least| match self {
+            Question::Reaches(value) => value < least,
+            Question::FallsShort(floor) => floor <= least,
+        })
     }
 }
 
@@ -43,10 +41,7 @@ impl Question {
 pub(crate) fn rank_of<G: Grade>(grade: Option<G>) -> Option<u32>
     ensures { result ≡ rank_in G.Grade.rank grade }
 {
-    match grade {
-        Some(grade) => Some(grade.rank()),
-        None => None,
-    }
+    grade.map(|grade| grade.rank())
 }
 
 // The bound with what it allows, where the answer is yes.
@@ -54,9 +49,5 @@ pub(crate) fn judge<G: Grade>(question: Question, bound: Bound, most: Option<G>)
     ensures { result ≡ judged question bound (number_of G.Grade.rank most) }
 {
     let most = rank_of(most);
-    if question.says(most) {
-        Some(Found { bound, most })
-    } else {
-        None
-    }
+    question.says(most).then_some(Found { bound, most })
 }

@@ -27,11 +27,8 @@ pub(crate) fn first_row<R: Rows>(
     if question.is_past(rank_of(least)) {
         return None;
     }
-    for row in 0..limit.rows.len() {
+    (0..limit.rows.len()).find_map(|row| {
         let most = row_bound(limit, row, cells, at);
-        if let Some(found) = judge(question, Bound::TorqueRow(row), most) {
-            return Some(found);
-        }
-    }
-    None
+        judge(question, Bound::TorqueRow(row), most)
+    })
 }
