@@ -1,5 +1,5 @@
 -- The square of an `f32` in `f64`, times 65536, is exact.
-use Rattle.std.proofs.Common.{◌≡◌, ℕ, zero, suc, ◌+◌, ◌-◌, ◌*◌, ◌/◌, ◌%◌, ◌^◌, ◌<◌, ◌≤◌, min, Bool, true, false, cond, T, eqb, leb, pos, sym, refl, ap, ◌∙◌, subst, le_of_eq, lt_of_lt_of_le, mul_assoc, mul-le-mul, le-div_iff_mul-le, mul_left_comm, two-mul, arith, lit<, pow_pos, pow_mono, pow-add, shl_lt}
+use Rattle.std.proofs.Common.{◌≡◌, ℕ, ◌+◌, ◌*◌, ◌/◌, ◌^◌, ◌<◌, ◌≤◌, min, Bool, true, false, T, eqb, leb, pos, sym, refl, ap, ◌∙◌, subst, lt_of_lt_of_le, mul_assoc, le-div_iff_mul-le, mul_left_comm, two-mul, arith, lit<, pow_pos, pow_mono, pow-add, shl_lt}
 use native.Mathlib.Nat.{min-le_left, min-le_right, le-min, mul-div-mul_right, mul-mul-mul_comm}
 use lib.Ieee.{Float, fin, binary32, binary64, mul, unlike, to_unsigned, fits}
 use lib.Ieee.Exact.{HasValue}

@@ -1,8 +1,8 @@
 -- An `f32` by its pattern, and an exact product, as fractions of whole numbers.
-use Rattle.std.proofs.Common.{◌≡◌, ℕ, zero, suc, ◌+◌, ◌-◌, ◌*◌, ◌/◌, ◌%◌, ◌^◌, ◌<◌, ◌≤◌, min, Bool, true, false, cond, not, ◌&&◌, T, eqb, leb, pos, sym, refl, ap, ◌∙◌, subst, mul-pos, arith}
+use Rattle.std.proofs.Common.{◌≡◌, ℕ, zero, suc, ◌+◌, ◌-◌, ◌*◌, ◌/◌, ◌^◌, ◌<◌, min, Bool, false, cond, not, ◌&&◌, T, eqb, leb, sym, ap, ◌∙◌, subst, mul-pos, arith}
 use native.Mathlib.Nat.{mul-mul-mul_comm}
-use lib.Ieee.{Float, nan, inf, fin, Format, binary32, binary64, prec, emax, low, up, down, round, mul, unlike, odd, of_fields, of_bits, to_bits, to_unsigned, fits, is_nan}
-use lib.Ieee.Bits.{of_bits-to_bits, cond_no}
+use lib.Ieee.{Float, nan, inf, fin, Format, binary32, binary64, prec, emax, low, up, down, round, mul, unlike, of_fields, of_bits, to_unsigned, fits, is_nan}
+use lib.Ieee.Bits.{of_bits-to_bits}
 use lib.Ieee.Fits.{down_pos, and_i, fits_widens}
 use lib.Ieee.Exact.{HasValue, odd_sign, round_exact}
 use lib.Ieee.Scale.{round_same}

@@ -3,10 +3,8 @@ ghost use Rattle.std.specs.Prelude.{◌<◌};
 ghost use Rattle.caps.specs.Floats.{bits_of, exponent, significand, shift};
 ghost use Rattle.caps.specs.Caps.{BendCap};
 
-use super::MOST;
+use super::{MOST, SIGN};
 
-// A binary32 pattern without its sign bit is below this.
-const SIGN: u32 = 0x8000_0000;
 // 2^23: a pattern's fraction field is below this, and a normal number's significand begins here.
 const NORMAL: u32 = 0x80_0000;
 // The size of a binary32 number is a significand times a power of two times 2^-149.

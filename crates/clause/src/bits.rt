@@ -4,8 +4,8 @@ ghost use Rattle.std.specs.Float.{binary32};
 ghost use Rattle.caps.specs.Floats.{bits_of, finite_bits};
 ghost use Rattle.clause.specs.Clauses.{negative_bits};
 
-// A pattern without its sign bit is below this.
-const SIGN: u32 = 0x8000_0000;
+use caps::SIGN;
+
 // The pattern of infinity: every finite number's, without the sign, is below it.
 const INFINITY: u32 = 0x7f80_0000;
 
@@ -23,6 +23,7 @@ pub(crate) fn is_negative(bits: u32) -> bool
 }
 
 // The number of a finite pattern.
+#[tactic(auto, using(crate::proofs::Patterns::number_bits, crate::proofs::Patterns::back))]
 pub(crate) fn number(bits: u32) -> f32
     requires { finite_bits bits ≡ true }
     ensures value { result ≡ from_bits binary32 bits }
@@ -32,6 +33,7 @@ pub(crate) fn number(bits: u32) -> f32
 }
 
 // The pattern of a finite number.
+#[tactic(auto, using(crate::proofs::Patterns::number_float))]
 pub(crate) fn pattern(v: f32) -> u32
     requires { finite_bits (bits_of v) ≡ true }
     ensures { result ≡ bits_of v }

@@ -1,18 +1,11 @@
 // A cap clause: what bounds the squared speed of a sample from above.
-ghost use Rattle.std.specs.Prelude.{◌≡◌};
+ghost use Rattle.std.specs.Prelude.{◌≡◌, ◌==◌, Ok};
+ghost use Rattle.clause.specs.Asking.{ask};
 ghost use Rattle.clause.specs.Clauses.{speed_read, clause_read, clause_words, Legal, ClauseCap};
 
 use super::bits::{is_finite, is_negative, number, pattern};
+use super::kind::ClauseKind;
 use caps::{MOST, bend_cap, speed_cap};
-
-// The kinds of cap clause, as a frame numbers them.
-const KIND_FREE: u8 = 0;
-
-const KIND_STRAIGHT: u8 = 1;
-
-const KIND_BEND: u8 = 2;
-
-pub const KIND_FIXED: u8 = 3;
 
 // A bend: a top speed in m/s and a signed curvature in 1/m.
 #[derive(Clone, Copy, Debug, PartialEq)]
@@ -64,73 +57,77 @@ fn top_speed(bits: u32) -> Result<f32, ClauseFault>
     Ok(number(bits))
 }
 
-// The clause of a kind from 0 to 3 and its two numbers, or the first number that does not fit.
-pub fn read_clause(words: ClauseWords) -> Result<CapClause, ClauseFault>
-    ensures { result ≡ clause_read words }
+// Asks whether an unused number is zero.
+fn ask_zero(number: u32, fault: ClauseFault) -> Result<(), ClauseFault>
+    ensures { result ≡ ask (number == 0) fault (Ok tt) }
 {
-    match words.kind {
-        KIND_FREE => {
-            if words.first != 0 {
-                return Err(ClauseFault::FirstNotZero);
+    if number == 0 { Ok(()) } else { Err(fault) }
+}
+
+impl TryFrom<ClauseWords> for CapClause {
+    type Error = ClauseFault;
+
+    ghost try_from_gives = { λ words r. r ≡ clause_read words };
+
+    // The clause of a kind and its two numbers, or the first number that does not fit. A number that is no kind's is refused
+    // before; here it passes for a fixed cap's.
+    fn try_from(words: ClauseWords) -> Result<CapClause, ClauseFault> {
+        match ClauseKind::try_from(words.kind).unwrap_or(ClauseKind::Fixed) {
+            ClauseKind::Free => {
+                ask_zero(words.first, ClauseFault::FirstNotZero)?;
+                ask_zero(words.second, ClauseFault::SecondNotZero)?;
+                Ok(CapClause::Free)
             }
-            if words.second != 0 {
-                return Err(ClauseFault::SecondNotZero);
+            ClauseKind::Straight => {
+                let speed = top_speed(words.first)?;
+                ask_zero(words.second, ClauseFault::SecondNotZero)?;
+                Ok(CapClause::Straight(speed))
             }
-            Ok(CapClause::Free)
-        }
-        KIND_STRAIGHT => {
-            let speed = top_speed(words.first)?;
-            if words.second != 0 {
-                return Err(ClauseFault::SecondNotZero);
+            ClauseKind::Bend => {
+                let speed = top_speed(words.first)?;
+                if !is_finite(words.second) {
+                    return Err(ClauseFault::CurvatureNotFinite);
+                }
+                Ok(CapClause::Bend(Bend {
+                    top_speed: speed,
+                    curvature: number(words.second),
+                }))
             }
-            Ok(CapClause::Straight(speed))
-        }
-        KIND_BEND => {
-            let speed = top_speed(words.first)?;
-            if !is_finite(words.second) {
-                return Err(ClauseFault::CurvatureNotFinite);
+            ClauseKind::Fixed => {
+                if words.first > MOST {
+                    return Err(ClauseFault::FixedTooGreat);
+                }
+                ask_zero(words.second, ClauseFault::SecondNotZero)?;
+                Ok(CapClause::Fixed(words.first))
             }
-            Ok(CapClause::Bend(Bend {
-                top_speed: speed,
-                curvature: number(words.second),
-            }))
-        }
-        _ => {
-            if words.first > MOST {
-                return Err(ClauseFault::FixedTooGreat);
-            }
-            if words.second != 0 {
-                return Err(ClauseFault::SecondNotZero);
-            }
-            Ok(CapClause::Fixed(words.first))
         }
     }
 }
 
 impl CapClause {
-    // The clause as it lies in a sample.
+    // The clause as it lies in a sample. No `From`, since only a legal clause has words.
     pub fn words(self) -> ClauseWords
         requires { Legal self }
         ensures { result ≡ clause_words self }
     {
         match self {
             CapClause::Free => ClauseWords {
-                kind: KIND_FREE,
+                kind: ClauseKind::Free.into(),
                 first: 0,
                 second: 0,
             },
             CapClause::Straight(speed) => ClauseWords {
-                kind: KIND_STRAIGHT,
+                kind: ClauseKind::Straight.into(),
                 first: pattern(speed),
                 second: 0,
             },
             CapClause::Bend(bend) => ClauseWords {
-                kind: KIND_BEND,
+                kind: ClauseKind::Bend.into(),
                 first: pattern(bend.top_speed),
                 second: pattern(bend.curvature),
             },
             CapClause::Fixed(number) => ClauseWords {
-                kind: KIND_FIXED,
+                kind: ClauseKind::Fixed.into(),
                 first: number,
                 second: 0,
             },

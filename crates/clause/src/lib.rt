@@ -4,5 +4,7 @@
 mod bits;
 mod clause;
 mod explaining;
+mod kind;
 
-pub use clause::{Bend, CapClause, ClauseFault, ClauseWords, KIND_FIXED, read_clause};
+pub use clause::{Bend, CapClause, ClauseFault, ClauseWords};
+pub use kind::{ClauseKind, UnknownKind};

@@ -1,5 +1,5 @@
 -- Records asked one after another: one record on, and what an answer for all tells of each.
-use Rattle.std.proofs.Common.{◌≡◌, ℕ, zero, suc, ◌+◌, ◌-◌, ◌<◌, List, [], ◌∷◌, length, get_or, Ok, Err, Result, refl, ap, ◌∙◌, subst, arith}
+use Rattle.std.proofs.Common.{◌≡◌, ℕ, zero, suc, ◌+◌, ◌-◌, ◌<◌, true, List, [], ◌∷◌, length, get_or, is_ok, Ok, Err, Result, sym, refl, true≢false, ap, ◌∙◌, subst, arith}
 use Rattle.record.specs.declared.fault.RecordFault.{RecordFault}
 use Rattle.clause.specs.Asking.{within}
 use Rattle.clause.proofs.Questions.{passed_within}
@@ -13,13 +13,14 @@ module _ {T F : Type 0} (place : ℕ → ℕ) (read : ℕ → Result T F) (n i :
   step : records_read place read (n - i) i ≡ within (fault place i) (read i) (λ x. within (λ f. f) (records_read place read (n - (i + 1)) (i + 1)) (λ xs. Ok (x ∷ xs)))
   step = let e : n - i ≡ suc (n - (i + 1)) = omega arith in rw e refl
 
-  pub at_err : (f : F) → read i ≡ Err f → done (records_read place read (n - i) i) ≡ Err (fault place i f)
-  at_err f e = ap done (step ∙ ap (λ (r : Result T F). within (fault place i) r (λ x. within (λ f. f) (records_read place read (n - (i + 1)) (i + 1)) (λ xs. Ok (x ∷ xs)))) e)
-
-  pub at_ok : (x : T) → read i ≡ Ok x → done (records_read place read (n - i) i) ≡ done (records_read place read (n - (i + 1)) (i + 1))
-  at_ok x e =
+  at_ok : (r : Result T F) → read i ≡ r → is_ok r ≡ true → done (records_read place read (n - i) i) ≡ done (records_read place read (n - (i + 1)) (i + 1))
+  at_ok (Ok x) e y =
       ap done (step ∙ ap (λ (r : Result T F). within (fault place i) r (λ x. within (λ f. f) (records_read place read (n - (i + 1)) (i + 1)) (λ xs. Ok (x ∷ xs)))) e)
       ∙ same_done x (records_read place read (n - (i + 1)) (i + 1))
+  at_ok (Err f) e y = absurd (true≢false (sym y))
+
+  pub at_yes : is_ok (read i) ≡ true → done (records_read place read (n - i) i) ≡ done (records_read place read (n - (i + 1)) (i + 1))
+  at_yes y = at_ok (read i) refl y
 
 -- ---- what an answer for all tells of each
 

@@ -6,9 +6,9 @@ ghost use Rattle.frame.specs.Views.{path_of, nth, CapShown};
 use super::body::Body;
 use super::header::Header;
 use super::reading::header_at;
-use super::records::{Records, record_at};
+use super::records::record_at;
 use super::view::PathFrame;
-use record::{Sample, SampleFault};
+use record::Sample;
 use words::see_bytes;
 
 impl<'a> PathFrame<'a> {
@@ -41,7 +41,7 @@ impl<'a> PathFrame<'a> {
     pub fn sample(&self, index: usize) -> Option<Sample>
         ensures { result ≡ nth (path_of self.now.bytes.now).samples index }
     {
-        record_at::<Sample, SampleFault, Body<'_>>(&self.body(), index)
+        record_at(&self.body(), index)
     }
 
     /// The cap on a sample's squared speed that its clause gives, or nothing past the last sample.

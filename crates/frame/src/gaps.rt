@@ -34,10 +34,8 @@ impl<'a> Records<Gap, GapFault> for Body<'a> {
     }
 
     fn put(&self, index: usize, out: &mut [u8]) {
-        match <Body<'_> as Records<Gap, GapFault>>::read(self, index) {
-            Ok(gap) => put(out, self.gap_offset(index), &gap.bytes()),
-            Err(_) => unreachable(),
-        }
+        let read: Result<Gap, GapFault> = self.read(index);
+        put(out, self.gap_offset(index), &read.unwrap().bytes());
     }
 }
 

@@ -2,12 +2,12 @@
 ghost use Rattle.std.specs.Prelude.{◌≡◌};
 ghost use Rattle.frame.specs.Views.{path_of, nth, offset_in};
 
-use super::layout::HEADER_SIZE;
 use super::view::PathFrame;
-use record::layout::{SAMPLE_Q, SAMPLE_SIZE};
+use record::layout::SAMPLE_Q;
 use record::{Gap, GapWords, RowWords, TorqueRow};
 use words::be32;
 
+// Three reads of three kinds at three places: they share no more than the form of the test of the number.
 impl PathFrame<'_> {
     /// A gap by its number, or nothing past the last.
     pub fn gap(&self, index: usize) -> Option<Gap>
@@ -39,6 +39,6 @@ impl PathFrame<'_> {
         if index >= body.header.samples as usize {
             return None;
         }
-        Some(be32(body.bytes, HEADER_SIZE + SAMPLE_SIZE * index + SAMPLE_Q).cast_signed())
+        Some(be32(body.bytes, body.sample_offset(index) + SAMPLE_Q).cast_signed())
     }
 }

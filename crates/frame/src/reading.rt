@@ -10,7 +10,7 @@ use super::header::Header;
 use super::layout;
 use super::records::check_records;
 use caps::MOST;
-use record::{Gap, GapFault, RowFault, Sample, SampleFault, TorqueRow};
+use record::{Gap, Sample, TorqueRow};
 use words::{be16, be32};
 
 // The header's fields as they lie.
@@ -30,10 +30,7 @@ pub(crate) fn header_at(bytes: &[u8]) -> Header
 fn ask_fields(size: usize, header: Header) -> Result<Header, FrameFault>
     ensures { result ≡ fields_read size header }
 {
-    if header.samples < layout::LEAST_SAMPLES {
-        return Err(FrameFault::SampleCount);
-    }
-    if header.samples > layout::MOST_SAMPLES {
+    if !(layout::LEAST_SAMPLES..=layout::MOST_SAMPLES).contains(&header.samples) {
         return Err(FrameFault::SampleCount);
     }
     if header.spacing < 1 {
@@ -74,9 +71,9 @@ fn read_header(bytes: &[u8]) -> Result<Header, FrameFault>
 fn ask_records(body: Body<'_>) -> Result<(), FrameFault>
     ensures { result ≡ done (body_read body.entry.bytes.now body.entry.header) }
 {
-    check_records::<Sample, SampleFault, Body<'_>>(&body)?;
-    check_records::<Gap, GapFault, Body<'_>>(&body)?;
-    check_records::<TorqueRow, RowFault, Body<'_>>(&body)?;
+    check_records::<Sample, _, _>(&body)?;
+    check_records::<Gap, _, _>(&body)?;
+    check_records::<TorqueRow, _, _>(&body)?;
     Ok(())
 }
 

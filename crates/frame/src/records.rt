@@ -5,6 +5,7 @@ ghost use Rattle.frame.specs.Records.{records_read, done, record_at_of};
 
 use record::RecordFault;
 
+// Records are reached by their numbers: there is no slice of them to go over.
 pub trait Records<T, F> {
     // The frame's bytes, where the first record begins in them, how many bytes a record has and how many records there are.
     ghost source: { Self → List ℕ };
@@ -31,7 +32,8 @@ pub trait Records<T, F> {
         requires { index < count self.now }
         ensures { result ≡ answer self.now index };
 
-    // Writes the record where it lies: what stood there in the frame stands there again.
+    // Writes the record where it lies: what stood there in the frame stands there again. Each kind writes its own bytes: one
+    // text for all would need a trait over those and a law of what a record that was read writes, for two lines of each kind.
     fn put(&self, index: usize, out: &mut [u8])
         requires bytes { Bytes (source self.now) }
         requires counted { index < count self.now }
@@ -47,14 +49,11 @@ pub(crate) fn check_records<T: Copy, F: Copy, R: Records<T, F>>(
     ensures { result ≡ done (records_read (λ i. R.Records.start records.now + R.Records.size * i) (R.Records.answer records.now) (R.Records.count records.now) 0) }
 {
     for index in 0..records.count() {
-        if let Err(fault) = records.read(index) {
-            let start = records.place(index);
-            return Err(RecordFault {
-                index,
-                start,
-                fault,
-            });
-        }
+        records.read(index).map_err(|fault| RecordFault {
+            index,
+            start: records.place(index),
+            fault,
+        })?;
     }
     Ok(())
 }
@@ -66,10 +65,7 @@ pub(crate) fn record_at<T: Copy, F: Copy, R: Records<T, F>>(records: &R, index: 
     if index >= records.count() {
         return None;
     }
-    match records.read(index) {
-        Ok(record) => Some(record),
-        Err(_) => None,
-    }
+    records.read(index).ok()
 }
 
 // Writes all the records where they lie: what stood there in the frame stands there again.

@@ -1,11 +1,10 @@
 // A refusal in numbers: which layer, which question, and where.
-ghost use Rattle.std.specs.Prelude.{◌≡◌, ◌<◌};
-ghost use Rattle.frame.specs.Refusals.{refusal_of};
-ghost use Rattle.frame.specs.Refusals.{framed, recorded};
+ghost use Rattle.std.specs.Prelude.{◌≡◌};
+ghost use Rattle.frame.specs.Refusals.{refusal_of, framed, recorded};
 
 use super::fault::FrameFault;
 use super::layout;
-use record::Asked;
+use record::{Fault, RecordFault};
 use std::fmt;
 
 /// What a question is about.
@@ -30,7 +29,8 @@ impl fmt::Display for Layer {
     }
 }
 
-/// The question that said no: its layer, its number, and the offset from byte 0 of the first failing field.
+/// The question that said no: its layer, its number, and the offset from byte 0 of the first failing field. The numbers are
+/// the format's own, by which refusals are compared; `FrameFault` is what they stand for.
 #[derive(Clone, Copy, Debug, PartialEq, Eq)]
 pub struct Refusal {
     pub layer: Layer,
@@ -50,14 +50,14 @@ fn of_frame(number: u8, at: usize) -> Refusal
 }
 
 // A question about a record that begins at an offset.
-fn of_record(layer: Layer, start: u32, asked: Asked) -> Refusal
-    requires { asked.offset < 64 }
-    ensures { result ≡ recorded layer start asked }
+fn of_record<F: Fault>(layer: Layer, found: RecordFault<F>) -> Refusal
+    ensures { result ≡ recorded layer found.start (F.asked found.fault) }
 {
+    let asked = found.fault.asked();
     Refusal {
         layer,
         number: asked.number,
-        place: start as u64 + asked.offset as u64,
+        place: found.start as u64 + asked.offset as u64,
     }
 }
 
@@ -76,11 +76,9 @@ impl FrameFault {
             FrameFault::Lateral => of_frame(16, layout::LATERAL_AT),
             FrameFault::RowCount => of_frame(17, layout::ROWS_AT),
             FrameFault::Size => of_frame(18, layout::LENGTH_AT),
-            FrameFault::Sample(found) => {
-                of_record(Layer::Sample, found.start, found.fault.asked())
-            }
-            FrameFault::Gap(found) => of_record(Layer::Gap, found.start, found.fault.asked()),
-            FrameFault::Row(found) => of_record(Layer::Torque, found.start, found.fault.asked()),
+            FrameFault::Sample(found) => of_record(Layer::Sample, found),
+            FrameFault::Gap(found) => of_record(Layer::Gap, found),
+            FrameFault::Row(found) => of_record(Layer::Torque, found),
         }
     }
 }

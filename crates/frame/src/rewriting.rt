@@ -1,4 +1,6 @@
 // A frame's bytes read and its records written again, in one call.
+ghost use Rattle.std.specs.Prelude.{◌≡◌};
+ghost use Rattle.frame.specs.declared.rewriting.RewriteFault.TheVariants.{Frame, Memory};
 ghost use Rattle.frame.specs.Rewrites.{Rewrites};
 
 use super::fault::FrameFault;
@@ -17,10 +19,28 @@ pub enum RewriteFault {
     Memory,
 }
 
+impl From<FrameFault> for RewriteFault {
+    ghost from_gives = { λ e r. r ≡ Frame e };
+
+    fn from(fault: FrameFault) -> RewriteFault {
+        RewriteFault::Frame(fault)
+    }
+}
+
+impl From<WriteFault> for RewriteFault {
+    ghost from_gives = { λ _ r. r ≡ Memory };
+
+    fn from(fault: WriteFault) -> RewriteFault {
+        match fault {
+            WriteFault::Memory => RewriteFault::Memory,
+        }
+    }
+}
+
 impl fmt::Display for RewriteFault {
     fn fmt<W: fmt::Write>(&self, f: &mut fmt::Formatter<W>) -> fmt::Result {
         match self {
-            RewriteFault::Frame(fault) => fault.fmt(f),
+            RewriteFault::Frame(refused) => refused.fmt(f),
             RewriteFault::Memory => WriteFault::Memory.fmt(f),
         }
     }
@@ -32,11 +52,6 @@ impl Error for RewriteFault {}
 pub fn rewrite(bytes: &[u8], out: &mut [u8]) -> Result<usize, RewriteFault>
     ensures { Rewrites bytes.now out.old out.new result }
 {
-    if let Err(fault) = read(bytes) {
-        return Err(RewriteFault::Frame(fault));
-    }
-    match PathFrame::over(bytes).write(out) {
-        Ok(size) => Ok(size),
-        Err(WriteFault::Memory) => Err(RewriteFault::Memory),
-    }
+    read(bytes)?;
+    Ok(PathFrame::over(bytes).write(out)?)
 }

@@ -4,9 +4,8 @@ ghost use Rattle.frame.specs.Layout.{rows_at};
 ghost use Rattle.frame.specs.Paths.{row_at, row_around};
 
 use super::body::Body;
-use super::layout::HEADER_SIZE;
 use super::records::Records;
-use record::layout::{GAP_SIZE, ROW_SIZE, SAMPLE_SIZE};
+use record::layout::ROW_SIZE;
 use record::{RowFault, RowPlace, RowWords, TorqueRow};
 use words::{be16, put};
 
@@ -34,10 +33,8 @@ impl<'a> Records<TorqueRow, RowFault> for Body<'a> {
     }
 
     fn put(&self, index: usize, out: &mut [u8]) {
-        match <Body<'_> as Records<TorqueRow, RowFault>>::read(self, index) {
-            Ok(row) => put(out, self.row_offset(index), &row.bytes()),
-            Err(_) => unreachable(),
-        }
+        let read: Result<TorqueRow, RowFault> = self.read(index);
+        put(out, self.row_offset(index), &read.unwrap().bytes());
     }
 }
 
@@ -46,9 +43,7 @@ impl Body<'_> {
         requires { index < self.now.header.rows }
         ensures { result ≡ rows_at self.now.header.samples + 24 * index }
     {
-        let samples = self.header.samples as usize;
-        let gaps = samples.saturating_sub(1);
-        HEADER_SIZE + SAMPLE_SIZE * samples + GAP_SIZE * gaps + ROW_SIZE * index
+        self.header.rows_offset() + ROW_SIZE * index
     }
 
     // What stands around a row.

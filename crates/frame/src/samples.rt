@@ -1,7 +1,7 @@
 // The samples of a frame, as records one behind the other.
 ghost use Rattle.std.specs.Prelude.{◌≡◌, ◌<◌};
 ghost use Rattle.frame.specs.Layout.{samples_at};
-ghost use Rattle.frame.specs.Paths.{at_end_of, sample_at_of};
+ghost use Rattle.frame.specs.Paths.{at_end_of, sample_place, sample_at_of};
 
 use super::body::Body;
 use super::layout::HEADER_SIZE;
@@ -26,19 +26,26 @@ impl<'a> Records<Sample, SampleFault> for Body<'a> {
     }
 
     fn place(&self, index: usize) -> u32 {
-        (HEADER_SIZE + SAMPLE_SIZE * index) as u32
+        self.sample_offset(index) as u32
     }
 
     fn read(&self, index: usize) -> Result<Sample, SampleFault> {
         let end = at_end(self.header.samples as usize, index);
-        SampleWords::at(self.bytes, HEADER_SIZE + SAMPLE_SIZE * index).read(end)
+        SampleWords::at(self.bytes, self.sample_offset(index)).read(end)
     }
 
     fn put(&self, index: usize, out: &mut [u8]) {
-        match <Body<'_> as Records<Sample, SampleFault>>::read(self, index) {
-            Ok(sample) => put(out, HEADER_SIZE + SAMPLE_SIZE * index, &sample.bytes()),
-            Err(_) => unreachable(),
-        }
+        let read: Result<Sample, SampleFault> = self.read(index);
+        put(out, self.sample_offset(index), &read.unwrap().bytes());
+    }
+}
+
+impl Body<'_> {
+    pub(crate) fn sample_offset(&self, index: usize) -> usize
+        requires { index < self.now.header.samples }
+        ensures { result ≡ sample_place index }
+    {
+        HEADER_SIZE + SAMPLE_SIZE * index
     }
 }
 

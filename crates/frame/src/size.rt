@@ -1,6 +1,6 @@
 // How many bytes a frame has, and the bytes of its header.
 ghost use Rattle.std.specs.Prelude.{◌≡◌, ◌≤◌};
-ghost use Rattle.frame.specs.Layout.{frame_size_of};
+ghost use Rattle.frame.specs.Layout.{rows_at, frame_size_of};
 ghost use Rattle.frame.specs.Writes.{header_bytes_of};
 
 use super::header::Header;
@@ -12,13 +12,18 @@ impl Header {
     pub fn frame_size(self) -> usize
         ensures { result ≡ frame_size_of self.samples self.rows }
     {
+        self.rows_offset() + ROW_SIZE * self.rows as usize
+    }
+
+    // Where the torque rows begin.
+    pub(crate) fn rows_offset(self) -> usize
+        ensures { result ≡ rows_at self.samples }
+    {
         let samples = self.samples as usize;
         let gaps = samples.saturating_sub(1);
-        HEADER_SIZE + SAMPLE_SIZE * samples + GAP_SIZE * gaps + ROW_SIZE * self.rows as usize
+        HEADER_SIZE + SAMPLE_SIZE * samples + GAP_SIZE * gaps
     }
-}
 
-impl Header {
     // The bytes of the version, the length and the body's own fields.
     pub(crate) fn bytes(self) -> [u8; HEADER_SIZE]
         requires { 15 ≤ frame_size_of self.samples self.rows }

@@ -6,7 +6,7 @@ use super::body::Body;
 use super::layout;
 use super::records::put_records;
 use super::view::PathFrame;
-use record::{Gap, GapFault, RowFault, Sample, SampleFault, TorqueRow};
+use record::{Gap, Sample, TorqueRow};
 use std::error::Error;
 use std::fmt;
 use words::{put, see_bytes};
@@ -18,7 +18,7 @@ pub enum WriteFault {
     Memory,
 }
 
-// The number of the question about memory.
+// The number of the question about memory, as the format counts questions.
 const PATH_MEMORY: u8 = 72;
 
 impl WriteFault {
@@ -64,7 +64,7 @@ fn put_body(body: Body<'_>, out: &mut [u8])
     ensures { out.new ≡ body.entry.bytes.now ++ drop (length body.entry.bytes.now) out.old }
 {
     put(out, layout::VERSION_AT, &body.header.bytes());
-    put_records::<Sample, SampleFault, Body<'_>>(&body, out);
-    put_records::<Gap, GapFault, Body<'_>>(&body, out);
-    put_records::<TorqueRow, RowFault, Body<'_>>(&body, out);
+    put_records::<Sample, _, _>(&body, out);
+    put_records::<Gap, _, _>(&body, out);
+    put_records::<TorqueRow, _, _>(&body, out);
 }

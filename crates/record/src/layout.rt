@@ -46,12 +46,6 @@ pub const ROW_LO: usize = 16;
 
 pub const ROW_HI: usize = 20;
 
-pub const KIND_STRAIGHT: u8 = 1;
-
-pub const KIND_BEND: u8 = 2;
-
-pub const KIND_FIXED: u8 = 3;
-
 // The greatest permit class.
 pub const CLASS_TOP: u8 = 7;
 // The greatest size of a torque row's numbers.

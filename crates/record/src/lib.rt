@@ -2,6 +2,7 @@
 #![tactic(auto)]
 
 mod asked;
+mod asking;
 mod explaining;
 mod fault;
 mod gap;
@@ -10,6 +11,7 @@ mod row;
 mod sample;
 
 pub use asked::Asked;
+pub use asking::Fault;
 pub use fault::RecordFault;
 pub use gap::{Gap, GapFault, GapWords};
 pub use row::{RowFault, RowPlace, RowWords, TorqueRow};

@@ -1,6 +1,6 @@
 // A sample of a path: what bounds its class and its speed, and how far its speed may lie above the average of its neighbours.
 ghost use Rattle.std.specs.Prelude.{◌≡◌, ◌+◌, ◌≤◌, length};
-ghost use Rattle.record.specs.declared.sample.SampleFault.TheVariants.{Clause};
+ghost use Rattle.record.specs.declared.sample.SampleFault.TheVariants.{Kind, Clause};
 ghost use Rattle.clause.specs.Clauses.{Legal};
 ghost use Rattle.record.specs.Samples.{sample_words_at, sample_read, words_of_sample, sample_bytes};
 
@@ -9,7 +9,7 @@ use super::layout::{
     SAMPLE_SECOND, SAMPLE_SIZE, SAMPLE_SPEED_FLOOR, SAMPLE_ZERO,
 };
 use caps::MOST;
-use clause::{CapClause, ClauseFault, ClauseWords, KIND_FIXED, read_clause};
+use clause::{CapClause, ClauseFault, ClauseKind, ClauseWords, UnknownKind};
 use words::be32;
 
 // A sample as its record lies in the frame.
@@ -49,6 +49,14 @@ pub enum SampleFault {
     EndOffset,
 }
 
+impl From<UnknownKind> for SampleFault {
+    ghost from_gives = { λ _ r. r ≡ Kind };
+
+    fn from(_: UnknownKind) -> SampleFault {
+        SampleFault::Kind
+    }
+}
+
 impl From<ClauseFault> for SampleFault {
     ghost from_gives = { λ e r. r ≡ Clause e };
 
@@ -81,9 +89,7 @@ impl SampleWords {
     pub fn read(self, at_end: bool) -> Result<Sample, SampleFault>
         ensures { result ≡ sample_read at_end self }
     {
-        if self.clause.kind > KIND_FIXED {
-            return Err(SampleFault::Kind);
-        }
+        ClauseKind::try_from(self.clause.kind)?;
         if self.zero != 0 {
             return Err(SampleFault::ZeroByte);
         }
@@ -93,7 +99,7 @@ impl SampleWords {
         if self.class_floor > CLASS_TOP {
             return Err(SampleFault::ClassFloor);
         }
-        let clause = read_clause(self.clause)?;
+        let clause = CapClause::try_from(self.clause)?;
         if self.speed_floor > MOST {
             return Err(SampleFault::SpeedFloor);
         }

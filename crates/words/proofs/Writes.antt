@@ -1,13 +1,8 @@
 -- Writes one after another.
 use Rattle.std.proofs.Common.{◌≡◌, ℕ, ◌+◌, ◌≤◌, List, [], ◌++◌, length, take, drop, sym, ap, ◌∙◌, append_assoc, add-zero, add_assoc, arith, length-append}
-use borrow.Rule.Slice.PartMut.{put_mid}
 use Rattle.std.proofs.lemmas.List.{drop-drop, take_at, drop_at, length-take-le, length-drop, take-append-drop}
 use Rattle.words.specs.Words.{slice, written}
 use Rattle.words.proofs.Slices.{slices}
-
--- what a write to `out[at..at + k]` leaves
-pub part : (at k : ℕ) (d ys vs : List ℕ) → ys ≡ vs → k ≡ length vs → put_mid at k d ys ≡ written d at vs
-part at k d ys vs e n = rw (e, n) (ap (λ (z : List ℕ). take at d ++ (vs ++ z)) (drop-drop (length vs) at d))
 
 -- a write behind a front of n elements
 pub front : (p d vs : List ℕ) (n : ℕ) → length p ≡ n → written (p ++ drop n d) n vs ≡ (p ++ vs) ++ drop (n + length vs) d

@@ -2,6 +2,7 @@
 ghost use Rattle.std.specs.Prelude.{◌≡◌, ℕ, ◌+◌, ◌<◌, ◌≤◌, length};
 ghost use Rattle.words.specs.Words.{be16_at, be32_at, Bytes};
 
+// Two widths, one line each: a reader generic in the width would be a third function, under both of these.
 pub fn be16(bytes: &[u8], at: usize) -> u16
     requires { at + 2 ≤ length bytes.now }
     ensures { result ≡ be16_at bytes.now at }

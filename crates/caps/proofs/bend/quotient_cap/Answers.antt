@@ -1,20 +1,14 @@
-use Rattle.std.proofs.Common.{◌≡◌, ℕ, ◌+◌, ◌-◌, ◌*◌, ◌/◌, ◌%◌, ◌^◌, ◌<◌, ◌≤◌, min, sym, ap, ◌∙◌, subst, mul-pos, arith, pow_pos}
+use Rattle.std.proofs.Common.{◌≡◌, ℕ, ◌+◌, ◌-◌, ◌*◌, ◌/◌, ◌%◌, ◌^◌, ◌<◌, ◌≤◌, min, ap, ◌∙◌, subst, arith}
 use native.Mathlib.Nat.{min-le_right}
 use Rattle.std.proofs.lemmas.Nat.{shl_whole}
 use Rattle.caps.specs.Caps.{BendCap}
-use Rattle.caps.proofs.Quotients.{cap_large, cap_small, cap_none}
+use Rattle.caps.proofs.Quotients.{cap_large, cap_small}
 use Rattle.caps.proofs.bend.quotient_cap.Goals as goal
 use Rattle.caps.proofs.bend.quotient_cap.Goals.{then-x-ge-UNIT, else-x-ge-UNIT}
 
 -- a shift by at most m places loses nothing
 whole : (v j z m : ℕ) → v < 2 ^ j → j + m ≤ 128 → v * 2 ^ min z m % 2 ^ 128 ≡ v * 2 ^ min z m
 whole v j z m h l = shl_whole v j (min z m) 128 h (omega (arith, min-le_right z m))
-
-pub nonzero_div-w : goal.nonzero_div-w
-nonzero_div-w c =
-    let e = whole c.args.s 24 (c.args.x - 149) 32 c.requires.0 (omega arith) in
-    let p : 0 < c.args.s * 2 ^ min (c.args.x - 149) 32 = mul-pos (omega arith) (pow_pos (min (c.args.x - 149) 32)) in
-    rw c.min-by.ensures (omega arith)
 
 pub returns : goal.returns
 returns c =

@@ -1,11 +1,9 @@
-use Rattle.std.proofs.Common.{ℕ, ◌+◌, ◌*◌, List, sym, ap, ◌∙◌, arith}
-use Rattle.words.specs.Words.{written}
-use Rattle.frame.specs.Layout.{rows_at}
+use Rattle.std.proofs.Common.{sym, ◌∙◌, arith}
 use Rattle.frame.proofs.Puts.{row_again}
 use Rattle.frame.proofs.rows.BodyRecordsTorqueRowRowFault.put.Goals as goal
 
 pub returns : goal.returns
 returns c =
     let body = c.args.self.now in
-    let again = row_again body.bytes.now body.header c.args.index c.requires.bytes c.in-Ok.row (omega (arith, body.long)) (sym c.in-Ok.ensures) in
-    c.put.ensures ∙ ap (λ (z : ℕ). written c.args.out.now z c.bytes.result) c.row_offset.ensures ∙ ap (λ (z : List ℕ). written c.args.out.now (rows_at body.header.samples + 24 * c.args.index) z) (c.bytes.ensures ∙ again)
+    let again = row_again body.bytes.now body.header c.args.index c.requires.bytes c.unwrap.result (omega (arith, body.long)) (sym c.read-read.ensures ∙ c.unwrap.ensures) in
+    cc
