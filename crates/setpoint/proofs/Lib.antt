@@ -1,3 +1,4 @@
 pub mod Framing
 pub mod OwnPairs
 pub mod Rooting
+pub mod Turns

@@ -1,6 +1,8 @@
 // Where the fields of a setpoint frame lie, counted from byte 0, and how wide they are.
-ghost use Rattle.std.specs.Prelude.{◌≡◌, ◌≤◌};
+ghost use Rattle.std.specs.Prelude.{◌≡◌};
 ghost use Rattle.setpoint.specs.Frames.{frame_size_of};
+
+use runs::Samples;
 
 pub const VERSION: u8 = 1;
 
@@ -16,9 +18,8 @@ pub const COUNT_SIZE: u32 = 2;
 pub const SETPOINT_SIZE: usize = 3;
 
 // How many bytes a frame of so many samples has.
-pub fn frame_size(samples: usize) -> usize
-    requires { samples ≤ 4096 }
-    ensures { result ≡ frame_size_of samples }
+pub fn frame_size(samples: Samples) -> usize
+    ensures { result ≡ frame_size_of samples.count }
 {
-    HEADER_SIZE + SETPOINT_SIZE * samples
+    HEADER_SIZE + SETPOINT_SIZE * samples.count
 }

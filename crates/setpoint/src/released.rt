@@ -1,12 +1,14 @@
 // What a settled job becomes: the class and the speed cells of its samples, lent until the setpoints are written.
-ghost use Rattle.std.specs.Prelude.{◌≡◌, ◌≤◌, length};
+ghost use Rattle.std.specs.Prelude.{◌≡◌, length};
 
 use grade::{Cell, Class, Speed};
+use runs::Samples;
 
 #[derive(Drop)]
 pub struct Released<'a> {
+    pub(crate) samples: Samples,
     pub(crate) classes: &'a [Cell<Class>],
     pub(crate) speeds: &'a [Cell<Speed>],
-    ghost alike: { length speeds.now ≡ length classes.now },
-    ghost most: { length classes.now ≤ 4096 },
+    ghost class_cells: { length classes.now ≡ samples.count },
+    ghost speed_cells: { length speeds.now ≡ samples.count },
 }

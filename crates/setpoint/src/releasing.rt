@@ -27,10 +27,12 @@ fn lend<'a>(job: &Job, classes: &'a [Cell<Class>], speeds: &'a [Cell<Speed>]) ->
     ensures classes { result.classes.now ≡ take job.now.samples.count classes.now }
     ensures speeds { result.speeds.now ≡ take job.now.samples.count speeds.now }
 {
-    let n = job.samples().count;
+    let samples = job.samples();
+    let n = samples.count;
     Released {
-        classes: &classes[0..n],
-        speeds: &speeds[0..n],
+        samples,
+        classes: &classes[..n],
+        speeds: &speeds[..n],
     }
 }
 

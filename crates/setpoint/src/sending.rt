@@ -16,7 +16,7 @@ fn ask_frame(job: &Job, classes: usize, speeds: usize, room: usize) -> Result<()
     ensures prepared { OnOk result (Prepared job.now classes speeds room) }
 {
     ask_release(job, classes, speeds)?;
-    ask_memory(job.samples().count, room)
+    ask_memory(job.samples(), room)
 }
 
 // Spends a job that said yes to every question.
@@ -42,6 +42,7 @@ pub fn release_setpoints<'a>(
 ) -> Result<usize, Unreleased>
     ensures { Sends (held job classes.now speeds.now) out.old out.new result }
 {
+    // A `match` and no `map_err`: the job goes into the frame or back to its caller.
     match ask_frame(&job, classes.len(), speeds.len(), out.len()) {
         Ok(()) => Ok(spend(job, classes, speeds, out)),
         Err(fault) => Err(Unreleased { job, fault }),
