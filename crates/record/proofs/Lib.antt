@@ -1,2 +1,1 @@
-pub mod Widths
 pub mod RecordTrips

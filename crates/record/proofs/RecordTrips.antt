@@ -1,6 +1,6 @@
 -- A record that was read is written as the words, and so as the bytes, that it was read from.
 use Rattle.std.proofs.Common.{◌≡◌, ℕ, ◌+◌, ◌^◌, ◌<◌, ◌≤◌, Bool, true, cond, eqb, ltb, leb, List, [], ◌∷◌, ◌++◌, length, get_or, nat_abs, Ok, sym, refl, ap, ◌∙◌, subst, add-zero, add_assoc, arith, w32, to_z, of_z}
-use Rattle.std.proofs.lemmas.Bool.{eqb-true, leb-true, ltb-true}
+use Rattle.std.proofs.lemmas.Bool.{eqb-true, leb-true}
 use Rattle.std.proofs.lemmas.Int.{of_z-to_z}
 use Rattle.words.specs.Words.{be16_at, be32_at, be16, be32, Bytes, slice}
 use Rattle.words.proofs.Slices.{slices, slice_byte, slice16, slice32}
@@ -11,7 +11,9 @@ use Rattle.record.specs.declared.sample.SampleFault.TheVariants as sample
 use Rattle.record.specs.declared.gap.Gap.{Gap}
 use Rattle.record.specs.declared.gap.GapWords.{GapWords}
 use Rattle.record.specs.declared.gap.GapFault.TheVariants as gap
-use Rattle.record.specs.declared.row.TorqueRow.{TorqueRow}
+use Rattle.torque.specs.declared.row.Row.{Row}
+use Rattle.torque.specs.Rows.{weight, Sound}
+use Rattle.torque.specs.Soundness.{small, weighing, is_sound_lem}
 use Rattle.record.specs.declared.row.RowWords.{RowWords}
 use Rattle.record.specs.declared.row.RowPlace.{RowPlace}
 use Rattle.record.specs.declared.row.RowFault.{RowFault}
@@ -19,7 +21,7 @@ use Rattle.record.specs.declared.row.RowFault.TheVariants as row
 use Rattle.clause.specs.Clauses.{clause_read, clause_words, Legal}
 use Rattle.record.specs.Samples.{sample_words_at, sample_read, words_of_sample, sample_bytes}
 use Rattle.record.specs.Gaps.{gap_words_at, gap_read, words_of_gap, gap_bytes}
-use Rattle.record.specs.Rows.{most, small, row_words_at, row_of, sizes_read, weighing, weight, numbers_read, row_read, words_of_row, row_bytes}
+use Rattle.record.specs.Rows.{row_words_at, row_of, sizes_read, numbers_read, row_read, words_of_row, row_bytes}
 use Rattle.clause.proofs.Questions.{passed, passed_within}
 use Rattle.clause.proofs.ClauseTrips.{clause_back, clause_legal}
 
@@ -115,20 +117,14 @@ gap_facts w g e =
 -- ---- torque rows
 
 -- what the questions tell of a row that was read from words
-pub record RowAsked (p : RowPlace) (w : RowWords) (r : TorqueRow) : Type 0 where
+pub record RowAsked (p : RowPlace) (w : RowWords) (r : Row) : Type 0 where
   pub row : r ≡ row_of w
   pub zero_bytes : w.zero ≡ 0
   pub gap : r.gap + 2 ≤ p.samples
   pub order : p.gap_before ≤ r.gap
-  pub d_small : nat_abs r.d ≤ most
-  pub c_small : nat_abs r.c ≤ most
-  pub g_small : nat_abs r.g ≤ most
-  pub lo_small : nat_abs r.lo ≤ most
-  pub hi_small : nat_abs r.hi ≤ most
-  pub d_some : 0 < nat_abs r.d
-  pub weighed : weighing r.d (weight p.spacing r) ≡ true
+  pub sound : Sound p.spacing r
 
-pub record RowFacts (p : RowPlace) (w : RowWords) (r : TorqueRow) : Type 0 where
+pub record RowFacts (p : RowPlace) (w : RowWords) (r : Row) : Type 0 where
   pub words : words_of_row r ≡ w
   pub asked : RowAsked p w r
 
@@ -142,7 +138,7 @@ pub record RowWordsFit (w : RowWords) : Type 0 where
 row_words : (w : RowWords) → RowWordsFit w → 0 ≡ w.zero → words_of_row (row_of w) ≡ w
 row_words w f z = λ i. record { gap = w.gap; zero = z i; d = of_z-to_z w32 w.d f.d i; c = of_z-to_z w32 w.c f.c i; g = of_z-to_z w32 w.g f.g i; lo = of_z-to_z w32 w.lo f.lo i; hi = of_z-to_z w32 w.hi f.hi i }
 
-pub row_asked_lem : (p : RowPlace) (w : RowWords) (r : TorqueRow) → row_read p w ≡ Ok r → RowAsked p w r
+pub row_asked_lem : (p : RowPlace) (w : RowWords) (r : Row) → row_read p w ≡ Ok r → RowAsked p w r
 unfolding numbers_read
 row_asked_lem p w r e =
     let a = passed (leb (w.gap + 2) p.samples) row.Gap _ r e in
@@ -163,16 +159,10 @@ row_asked_lem p w r e =
       zero_bytes = eqb-true w.zero 0 b.0;
       gap = leb-true (w.gap + 2) p.samples a.0;
       order = leb-true p.gap_before w.gap c.0;
-      d_small = leb-true (nat_abs t.d) most d.0;
-      c_small = leb-true (nat_abs t.c) most k.0;
-      g_small = leb-true (nat_abs t.g) most g.0;
-      lo_small = leb-true (nat_abs t.lo) most l.0;
-      hi_small = leb-true (nat_abs t.hi) most h.0;
-      d_some = ltb-true 0 (nat_abs t.d) x.0;
-      weighed = y.0;
+      sound = is_sound_lem p.spacing t (grind (arith, d.0, k.0, g.0, l.0, h.0, x.0, y.0));
     })
 
-pub row_facts : (p : RowPlace) (w : RowWords) (r : TorqueRow) → RowWordsFit w → row_read p w ≡ Ok r → RowFacts p w r
+pub row_facts : (p : RowPlace) (w : RowWords) (r : Row) → RowWordsFit w → row_read p w ≡ Ok r → RowFacts p w r
 row_facts p w r fit e = let a = row_asked_lem p w r e in record { words = ap words_of_row a.row ∙ row_words w fit (sym a.zero_bytes); asked = a }
 
 -- ---- bytes

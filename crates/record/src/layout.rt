@@ -48,5 +48,3 @@ pub const ROW_HI: usize = 20;
 
 // The greatest permit class.
 pub const CLASS_TOP: u8 = 7;
-// The greatest size of a torque row's numbers.
-pub const ROW_NUMBER_TOP: u32 = 16777216;

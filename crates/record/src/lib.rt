@@ -14,5 +14,6 @@ pub use asked::Asked;
 pub use asking::Fault;
 pub use fault::RecordFault;
 pub use gap::{Gap, GapFault, GapWords};
-pub use row::{RowFault, RowPlace, RowWords, TorqueRow};
+pub use row::{RowFault, RowPlace, RowWords};
 pub use sample::{Sample, SampleFault, SampleWords};
+pub use torque::Row as TorqueRow;

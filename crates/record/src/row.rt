@@ -1,22 +1,10 @@
-// A torque row at a gap. With the frame's spacing h it says 2h × lo ≤ T ≤ 2h × hi of the squared speeds w before the gap
-// and w' after it, where T = d × (w' − w) + 2h × (c × w + g).
-ghost use Rattle.std.specs.Prelude.{◌≡◌, ◌+◌, ◌*◌, ◌^◌, ◌≤◌, length, pos, ◌*ℤ◌, unsigned_abs};
-ghost use Rattle.record.specs.Rows.{most, row_words_at, row_of, small, weight, row_read, numbers_read, sizes_read, weighing, weight_read, words_of_row, row_bytes};
+// A torque row as its record lies in a frame, and the questions asked of it.
+ghost use Rattle.std.specs.Prelude.{◌≡◌, ◌+◌, ◌≤◌, length};
+ghost use Rattle.record.specs.Rows.{row_words_at, row_of, row_read, numbers_read, sizes_read, weight_read, words_of_row, row_bytes};
 
-use super::layout::{
-    ROW_C, ROW_D, ROW_G, ROW_GAP, ROW_HI, ROW_LO, ROW_NUMBER_TOP, ROW_SIZE, ROW_ZERO,
-};
+use super::layout::{ROW_C, ROW_D, ROW_G, ROW_GAP, ROW_HI, ROW_LO, ROW_SIZE, ROW_ZERO};
+use torque::{Row, is_small};
 use words::{be16, be32};
-
-#[derive(Clone, Copy, Debug, PartialEq, Eq)]
-pub struct TorqueRow {
-    pub gap: u16,
-    pub d: i32,
-    pub c: i32,
-    pub g: i32,
-    pub lo: i32,
-    pub hi: i32,
-}
 
 // A torque row as its record lies in the frame, its signed numbers as bits.
 #[derive(Clone, Copy, Debug, PartialEq, Eq)]
@@ -60,12 +48,6 @@ pub struct RowPlace {
     pub gap_before: u16,
 }
 
-fn is_small(n: i32) -> bool
-    ensures { result ≡ small n }
-{
-    n.unsigned_abs() <= ROW_NUMBER_TOP
-}
-
 impl RowWords {
     // The record that begins at an offset.
     pub fn at(bytes: &[u8], at: usize) -> RowWords
@@ -83,21 +65,8 @@ impl RowWords {
         }
     }
 
-    // The row, of words that were asked before.
-    pub fn row(self) -> TorqueRow
-        ensures { result ≡ row_of self }
-    {
-        TorqueRow {
-            gap: self.gap,
-            d: self.d.cast_signed(),
-            c: self.c.cast_signed(),
-            g: self.g.cast_signed(),
-            lo: self.lo.cast_signed(),
-            hi: self.hi.cast_signed(),
-        }
-    }
-
-    fn bytes(self) -> [u8; ROW_SIZE]
+    // The bytes of the record.
+    pub fn bytes(self) -> [u8; ROW_SIZE]
         ensures { result ≡ row_bytes self }
     {
         let [gap1, gap0] = self.gap.to_be_bytes();
@@ -114,7 +83,7 @@ impl RowWords {
     }
 
     // The row, or the first question that says no.
-    pub fn read(self, place: RowPlace) -> Result<TorqueRow, RowFault>
+    pub fn read(self, place: RowPlace) -> Result<Row, RowFault>
         ensures { result ≡ row_read place self }
     {
         if self.gap as u32 + 2 > place.samples as u32 {
@@ -126,108 +95,86 @@ impl RowWords {
         if self.gap < place.gap_before {
             return Err(RowFault::Order);
         }
-        self.row().ask(place.spacing)
+        ask_numbers(Row::from(self), place.spacing)
     }
 }
 
-impl TorqueRow {
-    // What is asked of the numbers.
-    fn ask(self, h: u16) -> Result<TorqueRow, RowFault>
-        ensures { result ≡ numbers_read h self }
-    {
-        self.ask_sizes()?;
-        self.ask_weight(h)
-    }
+// The row that a record stands for.
+impl From<RowWords> for Row {
+    ghost from_gives = { λ w r. r ≡ row_of w };
 
-    // Are the numbers small, and lo at most hi?
-    fn ask_sizes(self) -> Result<(), RowFault>
-        ensures { result ≡ sizes_read self }
-    {
-        if !is_small(self.d) {
-            return Err(RowFault::D);
+    fn from(words: RowWords) -> Row {
+        Row {
+            gap: words.gap,
+            d: words.d.cast_signed(),
+            c: words.c.cast_signed(),
+            g: words.g.cast_signed(),
+            lo: words.lo.cast_signed(),
+            hi: words.hi.cast_signed(),
         }
-        if !is_small(self.c) {
-            return Err(RowFault::C);
-        }
-        if !is_small(self.g) {
-            return Err(RowFault::G);
-        }
-        if !is_small(self.lo) {
-            return Err(RowFault::Lo);
-        }
-        if !is_small(self.hi) {
-            return Err(RowFault::Hi);
-        }
-        if self.lo > self.hi {
-            return Err(RowFault::LoAboveHi);
-        }
-        Ok(())
     }
+}
 
-    // Is d not zero, and d − 2hc not zero, of d's sign and small?
-    fn ask_weight(self, h: u16) -> Result<TorqueRow, RowFault>
-        requires { (unsigned_abs self.d ≤ most) × (unsigned_abs self.c ≤ most) }
-        ensures { result ≡ weight_read h self }
-    {
-        if self.d == 0 {
-            return Err(RowFault::NoD);
-        }
-        if !weighs(self.d, self.weight(h)) {
-            return Err(RowFault::Weight);
-        }
-        Ok(self)
-    }
+// The row as its record lies in the frame.
+impl From<Row> for RowWords {
+    ghost from_gives = { λ r w. w ≡ words_of_row r };
 
-    // d − 2hc: what the squared speed before the gap weighs in the row, as d is what the one after it does.
-    fn weight(self, h: u16) -> i64
-        requires { (unsigned_abs self.d ≤ most) × (unsigned_abs self.c ≤ most) }
-        ensures { result ≡ weight h self }
-    {
-        self.d as i64 - doubled(h, self.c)
-    }
-
-    // The row as its record lies in the frame.
-    fn words(self) -> RowWords
-        ensures { result ≡ words_of_row self }
-    {
+    fn from(row: Row) -> RowWords {
         RowWords {
-            gap: self.gap,
+            gap: row.gap,
             zero: 0,
-            d: self.d.cast_unsigned(),
-            c: self.c.cast_unsigned(),
-            g: self.g.cast_unsigned(),
-            lo: self.lo.cast_unsigned(),
-            hi: self.hi.cast_unsigned(),
+            d: row.d.cast_unsigned(),
+            c: row.c.cast_unsigned(),
+            g: row.g.cast_unsigned(),
+            lo: row.lo.cast_unsigned(),
+            hi: row.hi.cast_unsigned(),
         }
     }
-
-    // The bytes of the record.
-    pub fn bytes(self) -> [u8; ROW_SIZE]
-        ensures { result ≡ row_bytes (words_of_row self) }
-    {
-        self.words().bytes()
-    }
 }
 
-// Is a weight not zero, of d's sign and small?
-fn weighs(d: i32, weight: i64) -> bool
-    ensures { result ≡ weighing d weight }
+// What is asked of a row's numbers.
+#[tactic(auto, unfolding(crate::specs::Rows::numbers_read))]
+fn ask_numbers(row: Row, h: u16) -> Result<Row, RowFault>
+    ensures { result ≡ numbers_read h row }
 {
-    if weight == 0 {
-        return false;
-    }
-    if d < 0 {
-        weight < 0 && weight.unsigned_abs() <= ROW_NUMBER_TOP as u64
-    } else {
-        weight > 0 && weight.unsigned_abs() <= ROW_NUMBER_TOP as u64
-    }
+    ask_sizes(row)?;
+    ask_weight(row, h)
 }
 
-// 2h × n
-fn doubled(h: u16, n: i32) -> i64
-    requires { unsigned_abs n ≤ most }
-    ensures value { result ≡ pos (2 * h) *ℤ n }
-    ensures small { unsigned_abs result ≤ 2 ^ 41 }
+// Are the numbers small, and lo at most hi?
+fn ask_sizes(row: Row) -> Result<(), RowFault>
+    ensures { result ≡ sizes_read row }
 {
-    (2 * h as u32) as i64 * n as i64
+    if !is_small(row.d) {
+        return Err(RowFault::D);
+    }
+    if !is_small(row.c) {
+        return Err(RowFault::C);
+    }
+    if !is_small(row.g) {
+        return Err(RowFault::G);
+    }
+    if !is_small(row.lo) {
+        return Err(RowFault::Lo);
+    }
+    if !is_small(row.hi) {
+        return Err(RowFault::Hi);
+    }
+    if row.lo > row.hi {
+        return Err(RowFault::LoAboveHi);
+    }
+    Ok(())
+}
+
+// Is d not zero, and d − 2hc not zero, of d's sign and small?
+fn ask_weight(row: Row, h: u16) -> Result<Row, RowFault>
+    ensures { result ≡ weight_read h row }
+{
+    if row.d == 0 {
+        return Err(RowFault::NoD);
+    }
+    if !row.has_sound_weight(h) {
+        return Err(RowFault::Weight);
+    }
+    Ok(row)
 }
