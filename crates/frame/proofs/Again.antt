@@ -9,7 +9,7 @@ use Rattle.words.proofs.Writes.{slices_written}
 use Rattle.record.specs.declared.fault.RecordFault.{RecordFault}
 use Rattle.record.specs.declared.sample.Sample.{Sample}
 use Rattle.record.specs.declared.gap.Gap.{Gap}
-use Rattle.record.specs.declared.row.TorqueRow.{TorqueRow}
+use Rattle.torque.specs.declared.row.Row.{Row}
 use Rattle.record.specs.Samples.{words_of_sample, sample_bytes}
 use Rattle.record.specs.Gaps.{words_of_gap, gap_bytes}
 use Rattle.record.specs.Rows.{words_of_row, row_bytes}
@@ -126,7 +126,7 @@ path_again bs b e =
     let few = y.header.few in
     let ss = all_bytes bs sample_place (sample_at_of bs h) (λ (s : Sample). sample_bytes (words_of_sample s)) samples_at 20 n 0 p.samples (λ j x l f. sample_again bs h j b x (omega arith) f) w.1.samples in
     let gs = all_bytes bs (gap_place h) (gap_at bs h) (λ (g : Gap). gap_bytes (words_of_gap g)) (gaps_at n) 12 (n - 1) 0 p.gaps (λ j x l f. gap_again bs h j b x (omega arith) f) w.1.gaps in
-    let rs = all_bytes bs (row_place_of h) (row_at bs h) (λ (r : TorqueRow). row_bytes (words_of_row r)) (rows_at n) 24 h.rows 0 p.rows (λ j x l f. row_again bs h j b x (omega arith) f) w.1.rows in
+    let rs = all_bytes bs (row_place_of h) (row_at bs h) (λ (r : Row). row_bytes (words_of_row r)) (rows_at n) 24 h.rows 0 p.rows (λ j x l f. row_again bs h j b x (omega arith) f) w.1.rows in
     four bs (header_bytes_of h) _ _ _ n (n - 1) h.rows size (header_again bs h b w.0) ss gs rs
 
 -- ---- the memory that it is written into

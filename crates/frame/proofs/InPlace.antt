@@ -3,7 +3,7 @@ use Rattle.std.proofs.Common.{◌≡◌, ℕ, ◌+◌, ◌-◌, ◌*◌, ◌<◌
 use Rattle.std.proofs.lemmas.Bool.{lt-ltb, le-ltb, cond-true, cond-false}
 use Rattle.words.specs.Words.{be32_at}
 use Rattle.record.specs.declared.sample.Sample.{Sample}
-use Rattle.record.specs.declared.row.TorqueRow.{TorqueRow}
+use Rattle.torque.specs.declared.row.Row.{Row}
 use Rattle.record.specs.Samples.{sample_words_at}
 use Rattle.record.specs.Gaps.{gap_words_at}
 use Rattle.record.specs.Rows.{row_words_at, row_of}
@@ -44,7 +44,7 @@ module _ (bs : List ℕ) (e : accepted bs ≡ true) (i : ℕ) where
   row_past l = let h = header_at bs in none_past (row_place_of h) (row_at bs h) h.rows (path_of bs).rows (yes' bs e).held.rows i l
 
   -- a row that was read, as its questions leave it
-  pub row_found : i < (header_at bs).rows → (r : TorqueRow) × RowAsked (row_around bs (header_at bs) i) (row_words_at bs (rows_at (header_at bs).samples + 24 * i)) r × (nth (path_of bs).rows i ≡ Some r)
+  pub row_found : i < (header_at bs).rows → (r : Row) × RowAsked (row_around bs (header_at bs) i) (row_words_at bs (rows_at (header_at bs).samples + 24 * i)) r × (nth (path_of bs).rows i ≡ Some r)
   unfolding row_at
   row_found l =
       let h = header_at bs in

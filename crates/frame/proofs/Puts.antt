@@ -3,7 +3,7 @@ use Rattle.std.proofs.Common.{◌≡◌, ℕ, ◌+◌, ◌*◌, ◌≤◌, List,
 use Rattle.words.specs.Words.{Bytes, slice}
 use Rattle.record.specs.declared.sample.Sample.{Sample}
 use Rattle.record.specs.declared.gap.Gap.{Gap}
-use Rattle.record.specs.declared.row.TorqueRow.{TorqueRow}
+use Rattle.torque.specs.declared.row.Row.{Row}
 use Rattle.record.specs.Samples.{sample_words_at, words_of_sample, sample_bytes}
 use Rattle.record.specs.Gaps.{gap_words_at, words_of_gap, gap_bytes}
 use Rattle.record.specs.Rows.{row_words_at, words_of_row, row_bytes}
@@ -29,7 +29,7 @@ module _ (bs : List ℕ) (h : Header) (i : ℕ) (b : Bytes bs) where
   pub gap_again : (g : Gap) → gaps_at h.samples + 12 * i + 12 ≤ length bs → gap_at bs h i ≡ Ok g → gap_bytes (words_of_gap g) ≡ slice bs (gaps_at h.samples + 12 * i) 12
   gap_again g l e = ap gap_bytes (gap_known g e).words ∙ gap_slice bs (gaps_at h.samples + 12 * i) b l
 
-  pub row_known : (r : TorqueRow) → rows_at h.samples + 24 * i + 24 ≤ length bs → row_at bs h i ≡ Ok r → RowFacts (row_around bs h i) (row_words_at bs (rows_at h.samples + 24 * i)) r
+  pub row_known : (r : Row) → rows_at h.samples + 24 * i + 24 ≤ length bs → row_at bs h i ≡ Ok r → RowFacts (row_around bs h i) (row_words_at bs (rows_at h.samples + 24 * i)) r
   unfolding row_at
   row_known r l e =
       let at = rows_at h.samples + 24 * i in
@@ -41,5 +41,5 @@ module _ (bs : List ℕ) (h : Header) (i : ℕ) (b : Bytes bs) where
         hi = word_at bs (at + 20) b (omega arith);
       }) e
 
-  pub row_again : (r : TorqueRow) → rows_at h.samples + 24 * i + 24 ≤ length bs → row_at bs h i ≡ Ok r → row_bytes (words_of_row r) ≡ slice bs (rows_at h.samples + 24 * i) 24
+  pub row_again : (r : Row) → rows_at h.samples + 24 * i + 24 ≤ length bs → row_at bs h i ≡ Ok r → row_bytes (words_of_row r) ≡ slice bs (rows_at h.samples + 24 * i) 24
   row_again r l e = ap row_bytes (row_known r l e).words ∙ row_slice_lem bs (rows_at h.samples + 24 * i) b l

@@ -4,7 +4,7 @@ use Rattle.std.proofs.lemmas.Bool.{ltb-true}
 use Rattle.words.specs.Words.{Bytes}
 use Rattle.record.specs.declared.sample.Sample.{Sample}
 use Rattle.record.specs.declared.gap.Gap.{Gap}
-use Rattle.record.specs.declared.row.TorqueRow.{TorqueRow}
+use Rattle.torque.specs.declared.row.Row.{Row}
 use Rattle.record.specs.Samples.{sample_words_at}
 use Rattle.record.specs.Gaps.{gap_words_at}
 use Rattle.record.specs.Rows.{row_words_at}
@@ -40,7 +40,7 @@ module _ (bs : List ℕ) (b : Bytes bs) (e : accepted bs ≡ true) (i : ℕ) whe
       let a = answered (ltb i (h.samples - 1)) (gap_at bs h i) g (record_is (gap_place h) (gap_at bs h) (h.samples - 1) (path_of bs).gaps (yes' bs e).held.gaps i ∙ f) in
       (ltb-true i (h.samples - 1) a.0, gap_known bs h i b g a.1)
 
-  pub row_shown : (r : TorqueRow) → nth (path_of bs).rows i ≡ Some r → (i < (header_at bs).rows) × RowFacts (row_around bs (header_at bs) i) (row_words_at bs (rows_at (header_at bs).samples + 24 * i)) r
+  pub row_shown : (r : Row) → nth (path_of bs).rows i ≡ Some r → (i < (header_at bs).rows) × RowFacts (row_around bs (header_at bs) i) (row_words_at bs (rows_at (header_at bs).samples + 24 * i)) r
   row_shown r f =
       let h = header_at bs in
       let a = answered (ltb i h.rows) (row_at bs h i) r (record_is (row_place_of h) (row_at bs h) h.rows (path_of bs).rows (yes' bs e).held.rows i ∙ f) in

@@ -5,7 +5,7 @@ use Rattle.record.specs.declared.sample.Sample.{Sample}
 use Rattle.record.specs.declared.sample.SampleFault.{SampleFault}
 use Rattle.record.specs.declared.gap.Gap.{Gap}
 use Rattle.record.specs.declared.gap.GapFault.{GapFault}
-use Rattle.record.specs.declared.row.TorqueRow.{TorqueRow}
+use Rattle.torque.specs.declared.row.Row.{Row}
 use Rattle.record.specs.declared.row.RowFault.{RowFault}
 use Rattle.record.specs.declared.row.RowPlace.{RowPlace}
 use Rattle.clause.specs.Asking.{ask, within}
@@ -71,7 +71,7 @@ gap_before_of bs h k = cond (k == 0) 0 (be16_at bs (rows_at h.samples + 24 * (k 
 abbrev pub row_around : List ℕ → Header → ℕ → RowPlace
 row_around bs h k = record { samples = h.samples; spacing = h.spacing; gap_before = gap_before_of bs h k }
 
-unfoldable pub row_at : List ℕ → Header → ℕ → Result TorqueRow RowFault
+unfoldable pub row_at : List ℕ → Header → ℕ → Result Row RowFault
 row_at bs h k = row_read (row_around bs h k) (row_words_at bs (rows_at h.samples + 24 * k))
 
 -- ---- the whole frame
@@ -81,7 +81,7 @@ pub record Path : Type 0 where
   pub header : Header
   pub samples : List Sample
   pub gaps : List Gap
-  pub rows : List TorqueRow
+  pub rows : List Row
 
 -- the records behind a header: all samples are asked first, then all gaps, then all rows
 abbrev pub body_read : List ℕ → Header → Result Path FrameFault

@@ -4,7 +4,7 @@ use Rattle.std.specs.List.{flat_map}
 use Rattle.words.specs.Words.{be16, be32, Bytes, slice}
 use Rattle.record.specs.declared.sample.Sample.{Sample}
 use Rattle.record.specs.declared.gap.Gap.{Gap}
-use Rattle.record.specs.declared.row.TorqueRow.{TorqueRow}
+use Rattle.torque.specs.declared.row.Row.{Row}
 use Rattle.record.specs.Samples.{words_of_sample, sample_bytes}
 use Rattle.record.specs.Gaps.{words_of_gap, gap_bytes}
 use Rattle.record.specs.Rows.{words_of_row, row_bytes}
@@ -24,7 +24,7 @@ path_bytes p =
     header_bytes_of p.header
     ++ (flat_map (λ (s : Sample). sample_bytes (words_of_sample s)) p.samples
     ++ (flat_map (λ (g : Gap). gap_bytes (words_of_gap g)) p.gaps
-    ++ flat_map (λ (r : TorqueRow). row_bytes (words_of_row r)) p.rows))
+    ++ flat_map (λ (r : Row). row_bytes (words_of_row r)) p.rows))
 
 -- a frame whose header and records, written again, are its bytes
 pub record Rewritable (bs : List ℕ) (h : Header) : Type 0 where

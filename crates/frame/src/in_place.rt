@@ -28,7 +28,7 @@ impl PathFrame<'_> {
         if index >= body.header.rows as usize {
             return None;
         }
-        Some(RowWords::at(body.bytes, body.row_offset(index)).row())
+        Some(RowWords::at(body.bytes, body.row_offset(index)).into())
     }
 
     /// The offset q of a sample's average, or nothing past the last sample.

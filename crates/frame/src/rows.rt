@@ -34,7 +34,7 @@ impl<'a> Records<TorqueRow, RowFault> for Body<'a> {
 
     fn put(&self, index: usize, out: &mut [u8]) {
         let read: Result<TorqueRow, RowFault> = self.read(index);
-        put(out, self.row_offset(index), &read.unwrap().bytes());
+        put(out, self.row_offset(index), &RowWords::from(read.unwrap()).bytes());
     }
 }
 

@@ -6,8 +6,8 @@ use Rattle.std.proofs.lemmas.Int.{ints, clamps}
 use Rattle.std.proofs.lemmas.Bool.{cond-false, ne_eqb, and_left}
 use Rattle.grade.specs.Profiles.{Profile}
 use Rattle.grade.specs.Tops.{speed_top}
-use Rattle.motion.specs.declared.rows.Row.{Row}
-use Rattle.motion.specs.Rows.{row_at, no_row, Sound, SoundRows}
+use Rattle.torque.specs.declared.row.Row.{Row}
+use Rattle.torque.specs.Rows.{row_at, no_row, Sound, SoundRows}
 use Rattle.motion.specs.Torques.{allows_after, allows_before, allows, least, torque}
 use Rattle.motion.specs.TorquesLemmas.{least_low, least_high, least_none, allows_low}
 

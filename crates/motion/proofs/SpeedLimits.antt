@@ -3,11 +3,11 @@ use Rattle.std.proofs.Common.{ℕ, List, ℤ}
 use Rattle.grade.specs.Tops.{speed_top}
 use Rattle.limit.specs.Numbers.{both, KeptExactly}
 use Rattle.limit.specs.NumbersLemmas.{keeps_both}
-use Rattle.motion.specs.declared.rows.Row.{Row}
+use Rattle.torque.specs.declared.row.Row.{Row}
 use Rattle.motion.specs.declared.steps.Step.{Step}
 use Rattle.motion.specs.Averages.{average}
 use Rattle.motion.specs.Ramps.{ramp}
-use Rattle.motion.specs.Rows.{SoundRows}
+use Rattle.torque.specs.Rows.{SoundRows}
 use Rattle.motion.specs.SpeedLimits.{speed_limit_number, WithinSpeedLimit}
 use Rattle.motion.specs.Torques.{torque}
 use Rattle.motion.specs.AveragesLemmas.{keeps_average}

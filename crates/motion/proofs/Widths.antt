@@ -3,7 +3,7 @@ use Rattle.std.proofs.Common.{◌≡◌, ℕ, ◌*◌, ◌^◌, ◌<◌, ◌≤�
 use Rattle.std.proofs.lemmas.Nat.{mul-le}
 use Rattle.std.proofs.lemmas.Int.{ints}
 use Rattle.grade.specs.Tops.{speed_top}
-use Rattle.motion.specs.Rows.{row_size}
+use Rattle.torque.specs.Rows.{row_size}
 
 size-neg : (z : ℤ) → nat_abs (neg_ℤ z) ≡ nat_abs z
 size-neg z = omega (arith, ints)

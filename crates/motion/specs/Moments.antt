@@ -3,10 +3,12 @@ use Rattle.std.specs.Prelude.{◌≡◌, ℕ, ◌*◌, cond, ◌↔◌, ℤ, pos
 use Rattle.std.proofs.Common.{ap, sym, ◌∙◌, true≢false, arith}
 use Rattle.std.proofs.lemmas.Int.{ints}
 use Rattle.std.proofs.lemmas.Bool.{false≢true, cond-false, le-ltb}
-use Rattle.motion.specs.declared.rows.Row.{Row}
+use Rattle.torque.specs.declared.row.Row.{Row}
 use Rattle.motion.specs.declared.triple.Triple.{Triple}
-use Rattle.motion.specs.Rows.{moment, lowest, highest, Holds, BoundsNext, BoundsLast, weight, Sound}
-use Rattle.motion.specs.Torques.{room_above_of, room_below_of, on_right_of, on_left_of}
+use Rattle.torque.specs.Rows.{weight, Sound}
+use Rattle.motion.specs.Rows.{moment, lowest, highest, Holds, BoundsNext, BoundsLast}
+use Rattle.torque.specs.Rows.{room_above_of, room_below_of}
+use Rattle.motion.specs.Torques.{on_right_of, on_left_of}
 use Rattle.motion.specs.Integers.{mul-sum, mul-neg, sum-mul, neg-mul, mul-mul}
 
 -- ---- the moment, by what each squared speed weighs

@@ -3,7 +3,7 @@ use Rattle.std.specs.Prelude.{ℕ, List, ℤ}
 use Rattle.grade.specs.Profiles.{Profile}
 use Rattle.grade.specs.Tops.{speed_top}
 use Rattle.limit.specs.Numbers.{Number, both}
-use Rattle.motion.specs.declared.rows.Row.{Row}
+use Rattle.torque.specs.declared.row.Row.{Row}
 use Rattle.motion.specs.declared.steps.Step.{Step}
 use Rattle.motion.specs.Averages.{average, WithinAverage}
 use Rattle.motion.specs.Ramps.{ramp, WithinSteps}

@@ -1,19 +1,12 @@
 -- What rows of torque allow: each row is two inequalities, and each of those bounds the sample on its left side.
-use Rattle.std.specs.Prelude.{ℕ, ◌+◌, ◌-◌, ◌*◌, ◌^◌, ◌≤◌, cond, ◌&&◌, List, [], ◌∷◌, length, ℤ, pos, ◌+ℤ◌, ◌-ℤ◌, ◌*ℤ◌, ◌==◌, int_lt, nat_lt, unsigned_abs}
+use Rattle.std.specs.Prelude.{ℕ, ◌+◌, ◌-◌, ◌*◌, ◌^◌, ◌≤◌, cond, ◌&&◌, List, [], ◌∷◌, length, ℤ, pos, ◌+ℤ◌, ◌==◌, int_lt, nat_lt, unsigned_abs}
 use Rattle.std.specs.Int.{int_min}
 use Rattle.grade.specs.Profiles.{Profile, rank}
 use Rattle.grade.specs.Tops.{speed_top}
-use Rattle.motion.specs.declared.rows.Row.{Row}
+use Rattle.torque.specs.declared.row.Row.{Row}
 use Rattle.motion.specs.declared.triple.Triple.{Triple}
 use Rattle.motion.specs.Floors.{floored}
-use Rattle.motion.specs.Rows.{weight, row_size, row_at}
-
--- 2h × (hi − g) and 2h × (g − lo): the room that g leaves above and below
-abbrev pub room_above_of : ℕ → Row → ℤ
-room_above_of h r = pos (2 * h) *ℤ (r.hi -ℤ r.g)
-
-abbrev pub room_below_of : ℕ → Row → ℤ
-room_below_of h r = pos (2 * h) *ℤ (r.g -ℤ r.lo)
+use Rattle.torque.specs.Rows.{weight, room_above_of, room_below_of, row_size, row_at}
 
 -- the inequality that bounds the sample after the gap
 abbrev pub on_right_of : ℕ → Row → Triple

@@ -5,10 +5,11 @@ use Rattle.std.proofs.lemmas.Int.{ints, clamps}
 use Rattle.std.proofs.lemmas.Bool.{cond-false, le-ltb, lt-ltb, ltb-true, eq-eqb, eqb-true, and_parts, and_from, and_right}
 use Rattle.grade.specs.Profiles.{Profile, rank}
 use Rattle.grade.specs.Tops.{speed_top}
-use Rattle.motion.specs.declared.rows.Row.{Row}
+use Rattle.torque.specs.declared.row.Row.{Row}
 use Rattle.motion.specs.declared.triple.Triple.{Triple}
 use Rattle.limit.specs.Numbers.{Keeps, KeptExactly}
-use Rattle.motion.specs.Rows.{moment, lowest, highest, BoundsNext, BoundsLast, WithinTorque, WithinTorqueAt, row_at, Sound, SoundRows}
+use Rattle.torque.specs.Rows.{row_at, Sound, SoundRows}
+use Rattle.motion.specs.Rows.{moment, lowest, highest, BoundsNext, BoundsLast, WithinTorque, WithinTorqueAt}
 use Rattle.motion.specs.Torques.{on_right_of, on_left_of, bound, allows_after, allows_before, allows, least, torque}
 use Rattle.motion.specs.FloorsLemmas.{floored_low, floored_mono, under_floored}
 use Rattle.motion.specs.Moments.{next_side, last_side, row_holds}

@@ -65,7 +65,7 @@ fn from_before<G: Raisable, S: Steps>(steps: &S, cells: &[Cell<G>], at: usize) -
     ensures { pos (G.Grade.rank result) ≡ before G.Grade.top (S.Steps.steps steps.now) (ranks G.Grade.rank cells.now) at }
 {
     if at > 0 && at <= steps.len() {
-        value(cells, at - 1).raise(steps.up(at - 1))
+        value(cells, at - 1).raise(steps.step(at - 1).up)
     } else {
         unbounded()
     }
@@ -77,7 +77,7 @@ fn from_after<G: Raisable, S: Steps>(steps: &S, cells: &[Cell<G>], at: usize) ->
     ensures { pos (G.Grade.rank result) ≡ after G.Grade.top (S.Steps.steps steps.now) (ranks G.Grade.rank cells.now) at }
 {
     if at < steps.len() && at + 1 < samples(cells) {
-        value(cells, at + 1).raise(steps.down(at))
+        value(cells, at + 1).raise(steps.step(at).down)
     } else {
         unbounded()
     }

@@ -3,7 +3,7 @@ ghost use Rattle.std.specs.Prelude.{◌≡◌, ◌<◌, List, length, slice_inde
 ghost use Rattle.motion.specs.declared.steps.Step.{Step};
 ghost use Rattle.motion.specs.Ramps.{no_step};
 
-#[derive(Clone, Copy)]
+#[derive(Clone, Copy, Debug, PartialEq, Eq)]
 pub struct Step {
     pub up: u32,
     pub down: u32,
@@ -15,11 +15,7 @@ pub trait Steps {
     fn len(&self) -> usize
         ensures { result ≡ length (steps self.now) };
 
-    fn up(&self, gap: usize) -> u32
+    fn step(&self, gap: usize) -> Step
         requires { gap < length (steps self.now) }
-        ensures { result ≡ (slice_index_or (steps self.now) gap no_step).up };
-
-    fn down(&self, gap: usize) -> u32
-        requires { gap < length (steps self.now) }
-        ensures { result ≡ (slice_index_or (steps self.now) gap no_step).down };
+        ensures { result ≡ slice_index_or (steps self.now) gap no_step };
 }

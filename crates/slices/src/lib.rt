@@ -4,12 +4,11 @@
 mod offsets;
 mod row_slice;
 mod rows;
-mod soundness;
 mod speeds;
 mod steps;
 
 pub use offsets::OffsetSlice;
 pub use row_slice::RowSlice;
-pub use soundness::{are_sound, is_sound};
 pub use speeds::{speed_allowed, speed_kept_exactly};
 pub use steps::StepSlice;
+pub use torque::{are_sound, is_sound};

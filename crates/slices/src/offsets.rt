@@ -1,7 +1,7 @@
 // Offsets in a slice.
 use motion::Offsets;
 
-#[derive(Clone, Copy)]
+#[derive(Clone, Copy, Debug, PartialEq, Eq)]
 pub struct OffsetSlice<'a> {
     pub offsets: &'a [i32],
 }
@@ -14,7 +14,6 @@ impl<'a> Offsets for OffsetSlice<'a> {
     }
 
     fn offset(&self, at: usize) -> i32 {
-        let offsets = self.offsets;
-        offsets[at]
+        self.offsets[at]
     }
 }

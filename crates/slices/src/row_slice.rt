@@ -1,10 +1,10 @@
 // Rows of torque in a slice, at spacing h, known to be sound: `are_sound` asks for that first.
 ghost use Rattle.std.specs.Prelude.{◌≡◌, true};
-ghost use Rattle.motion.specs.Soundness.{sound_rows};
+ghost use Rattle.torque.specs.Soundness.{sound_rows};
 
 use motion::Row;
 
-#[derive(Clone, Copy)]
+#[derive(Clone, Copy, Debug, PartialEq, Eq)]
 pub struct RowSlice<'a> {
     pub h: u16,
     pub rows: &'a [Row],

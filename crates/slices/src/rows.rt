@@ -1,5 +1,5 @@
 // A slice of rows as a source.
-ghost use Rattle.motion.specs.Soundness.{are_sound_lem};
+ghost use Rattle.torque.specs.Soundness.{are_sound_lem};
 
 use super::row_slice::RowSlice;
 use motion::{Row, Rows};
@@ -20,7 +20,6 @@ impl<'a> Rows for RowSlice<'a> {
     }
 
     fn row(&self, at: usize) -> Row {
-        let rows = self.rows;
-        rows[at]
+        self.rows[at]
     }
 }

@@ -9,8 +9,8 @@ use super::offsets::OffsetSlice;
 use super::row_slice::RowSlice;
 use super::steps::StepSlice;
 use grade::{Cell, Speed};
-use limit::{Limit, Pair};
-use motion::{Average, Ramp, Step, Torque};
+use limit::Limit;
+use motion::{Step, make_speed_limit};
 
 // The greatest squared speed that all three allow at a sample, or nothing.
 pub fn speed_allowed(
@@ -22,17 +22,7 @@ pub fn speed_allowed(
 ) -> Option<Speed>
     ensures { number_of speed_rank result ≡ speed_limit_number steps.now offsets.now rows.entry.h rows.entry.rows.now (ranks speed_rank cells.now) at }
 {
-    let limit = Pair {
-        first: Ramp {
-            steps: StepSlice { steps },
-        },
-        second: Pair {
-            first: Average {
-                offsets: OffsetSlice { offsets },
-            },
-            second: Torque { rows },
-        },
-    };
+    let limit = make_speed_limit(StepSlice { steps }, OffsetSlice { offsets }, rows);
     limit.evaluate(cells, at)
 }
 

@@ -1,7 +1,7 @@
 // Steps in a slice.
 use motion::{Step, Steps};
 
-#[derive(Clone, Copy)]
+#[derive(Clone, Copy, Debug, PartialEq, Eq)]
 pub struct StepSlice<'a> {
     pub steps: &'a [Step],
 }
@@ -13,13 +13,7 @@ impl<'a> Steps for StepSlice<'a> {
         self.steps.len()
     }
 
-    fn up(&self, gap: usize) -> u32 {
-        let steps = self.steps;
-        steps[gap].up
-    }
-
-    fn down(&self, gap: usize) -> u32 {
-        let steps = self.steps;
-        steps[gap].down
+    fn step(&self, gap: usize) -> Step {
+        self.steps[gap]
     }
 }

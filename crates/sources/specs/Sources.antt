@@ -1,14 +1,13 @@
 -- What the limits of a path read of it, and their numbers.
-use Rattle.std.specs.Prelude.{List, map, ℤ, pos}
+use Rattle.std.specs.Prelude.{List, map, ℤ}
 use Rattle.grade.specs.Profiles.{Profile}
 use Rattle.grade.specs.Tops.{class_top}
 use Rattle.limit.specs.Numbers.{Number}
-use Rattle.motion.specs.declared.rows.Row.{Row}
+use Rattle.torque.specs.declared.row.Row.{Row}
 use Rattle.motion.specs.declared.steps.Step.{Step}
 use Rattle.motion.specs.Ramps.{ramp, WithinSteps}
 use Rattle.motion.specs.SpeedLimits.{speed_limit_number, WithinSpeedLimit as WithinSpeeds}
 use Rattle.record.specs.declared.gap.Gap.{Gap}
-use Rattle.record.specs.declared.row.TorqueRow.{TorqueRow}
 use Rattle.record.specs.declared.sample.Sample.{Sample}
 use Rattle.frame.specs.Paths.{Path}
 
@@ -17,9 +16,6 @@ use Rattle.frame.specs.Paths.{Path}
 abbrev pub no_gap : Gap
 no_gap = record { rise = 0; fall = 0; up = 0; down = 0 }
 
-abbrev pub no_torque_row : TorqueRow
-no_torque_row = record { gap = 0; d = pos 0; c = pos 0; g = pos 0; lo = pos 0; hi = pos 0 }
-
 -- of a gap, rise and fall
 abbrev pub class_step_of : Gap → Step
 class_step_of g = record { up = g.rise; down = g.fall }
@@ -27,9 +23,6 @@ class_step_of g = record { up = g.rise; down = g.fall }
 -- of a gap, up and down
 abbrev pub speed_step_of : Gap → Step
 speed_step_of g = record { up = g.up; down = g.down }
-
-abbrev pub torque_row_of : TorqueRow → Row
-torque_row_of r = record { gap = r.gap; d = r.d; c = r.c; g = r.g; lo = r.lo; hi = r.hi }
 
 abbrev pub class_steps : Path → List Step
 class_steps p = map class_step_of p.gaps
@@ -42,7 +35,7 @@ abbrev pub offsets_of : Path → List ℤ
 offsets_of p = map (λ (s : Sample). s.q) p.samples
 
 abbrev pub rows_of : Path → List Row
-rows_of p = map torque_row_of p.rows
+rows_of p = p.rows
 
 -- ---- the limits
 

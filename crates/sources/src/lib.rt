@@ -4,11 +4,10 @@
 
 mod limits;
 mod offsets;
-mod reading;
 mod rows;
 mod steps;
 
 pub use limits::{class_limit, speed_limit};
 pub use offsets::FrameOffsets;
 pub use rows::FrameRows;
-pub use steps::{ClassSteps, SpeedSteps};
+pub use steps::{FrameSteps, GapStep};

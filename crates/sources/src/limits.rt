@@ -7,41 +7,37 @@ ghost use Rattle.sources.specs.Sources.{class_number, speed_number, WithinClassL
 
 use super::offsets::FrameOffsets;
 use super::rows::FrameRows;
-use super::steps::{ClassSteps, SpeedSteps};
+use super::steps::FrameSteps;
 use frame::PathFrame;
-use limit::Pair;
-use motion::{Average, Ramp, Torque};
+use grade::{Class, Speed};
+use motion::{Ramp, SpeedLimit, make_speed_limit};
+use std::marker::PhantomData;
 
 /// The class limit of a frame: a ramp over rise and fall of its gaps.
-pub fn class_limit<'a>(frame: PathFrame<'a>) -> Ramp<ClassSteps<'a>>
+pub fn class_limit<'a>(frame: PathFrame<'a>) -> Ramp<FrameSteps<'a, Class>>
     ensures steps { result.steps.frame.bytes.now ≡ frame.entry.bytes.now }
     ensures kept { KeptExactly class_top (class_number (path_of frame.entry.bytes.now)) (WithinClassLimit (path_of frame.entry.bytes.now)) }
 {
     Ramp {
-        steps: ClassSteps { frame },
+        steps: FrameSteps {
+            frame,
+            make: PhantomData,
+        },
     }
 }
 
 /// The speed limit of a frame: a pair of a ramp over up and down with a pair of the average at each q and the torque rows.
 pub fn speed_limit<'a>(
     frame: PathFrame<'a>,
-) -> Pair<Ramp<SpeedSteps<'a>>, Pair<Average<FrameOffsets<'a>>, Torque<FrameRows<'a>>>>
+) -> SpeedLimit<FrameSteps<'a, Speed>, FrameOffsets<'a>, FrameRows<'a>>
     ensures steps { result.first.steps.frame.bytes.now ≡ frame.entry.bytes.now }
     ensures offsets { result.second.first.offsets.frame.bytes.now ≡ frame.entry.bytes.now }
     ensures rows { result.second.second.rows.frame.bytes.now ≡ frame.entry.bytes.now }
     ensures kept { KeptExactly speed_top (speed_number (path_of frame.entry.bytes.now)) (WithinSpeedLimit (path_of frame.entry.bytes.now)) }
 {
-    Pair {
-        first: Ramp {
-            steps: SpeedSteps { frame },
-        },
-        second: Pair {
-            first: Average {
-                offsets: FrameOffsets { frame },
-            },
-            second: Torque {
-                rows: FrameRows { frame },
-            },
-        },
-    }
+    let steps = FrameSteps {
+        frame,
+        make: PhantomData,
+    };
+    make_speed_limit(steps, FrameOffsets { frame }, FrameRows { frame })
 }

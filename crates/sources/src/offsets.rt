@@ -2,12 +2,11 @@
 ghost use Rattle.frame.specs.Views.{path_of};
 ghost use Rattle.sources.specs.Sources.{offsets_of};
 
-use super::reading::{offset, samples};
 use frame::PathFrame;
 use motion::Offsets;
 
 /// The offset q of each sample of a frame.
-#[derive(Clone, Copy)]
+#[derive(Clone, Copy, Debug)]
 pub struct FrameOffsets<'a> {
     pub frame: PathFrame<'a>,
 }
@@ -16,10 +15,10 @@ impl<'a> Offsets for FrameOffsets<'a> {
     ghost offsets = { λ s. offsets_of (path_of s.frame.bytes.now) };
 
     fn len(&self) -> usize {
-        samples(self.frame)
+        self.frame.header().samples as usize
     }
 
     fn offset(&self, at: usize) -> i32 {
-        offset(self.frame, at)
+        self.frame.offset(at).unwrap()
     }
 }

@@ -3,12 +3,11 @@ ghost use Rattle.frame.specs.Views.{path_of};
 ghost use Rattle.sources.specs.Sources.{rows_of};
 ghost use Rattle.sources.specs.Soundness.{rows_sound};
 
-use super::reading::{rows, torque_row};
 use frame::PathFrame;
 use motion::{Row, Rows};
 
 /// The torque rows of a frame.
-#[derive(Clone, Copy)]
+#[derive(Clone, Copy, Debug)]
 pub struct FrameRows<'a> {
     pub frame: PathFrame<'a>,
 }
@@ -25,10 +24,10 @@ impl<'a> Rows for FrameRows<'a> {
     }
 
     fn len(&self) -> usize {
-        rows(self.frame)
+        self.frame.header().rows as usize
     }
 
     fn row(&self, at: usize) -> Row {
-        torque_row(self.frame, at)
+        self.frame.row(at).unwrap()
     }
 }

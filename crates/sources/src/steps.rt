@@ -1,51 +1,61 @@
 // The steps of a frame's gaps: rise and fall of classes, up and down of squared speeds.
+ghost use Rattle.std.specs.Prelude.{◌≡◌, map};
+ghost use Rattle.record.specs.declared.gap.Gap.{Gap};
+ghost use Rattle.motion.specs.declared.steps.Step.{Step};
 ghost use Rattle.frame.specs.Views.{path_of};
-ghost use Rattle.sources.specs.Sources.{class_steps, speed_steps};
+ghost use Rattle.sources.specs.Sources.{class_step_of, speed_step_of};
 
-use super::reading::{class_step, gaps, speed_step};
 use frame::PathFrame;
-use motion::Steps;
+use grade::{Class, Speed};
+use motion::{Step, Steps};
+use record::Gap;
+use std::marker::PhantomData;
 
-/// How much classes may rise and fall over each gap of a frame.
-#[derive(Clone, Copy)]
-pub struct ClassSteps<'a> {
-    pub frame: PathFrame<'a>,
+/// Which numbers of a gap are the step for a make of grade.
+pub trait GapStep {
+    ghost step_of: { Gap → Step };
+
+    fn step(gap: Gap) -> Step
+        ensures { result ≡ step_of gap };
 }
 
-impl<'a> Steps for ClassSteps<'a> {
-    ghost steps = { λ s. class_steps (path_of s.frame.bytes.now) };
+impl GapStep for Class {
+    ghost step_of = { class_step_of };
+
+    fn step(gap: Gap) -> Step {
+        Step {
+            up: gap.rise as u32,
+            down: gap.fall as u32,
+        }
+    }
+}
+
+impl GapStep for Speed {
+    ghost step_of = { speed_step_of };
+
+    fn step(gap: Gap) -> Step {
+        Step {
+            up: gap.up,
+            down: gap.down,
+        }
+    }
+}
+
+/// How much a make of grade may rise and fall over each gap of a frame.
+#[derive(Clone, Copy, Debug)]
+pub struct FrameSteps<'a, G> {
+    pub frame: PathFrame<'a>,
+    pub make: PhantomData<G>,
+}
+
+impl<'a, G: GapStep> Steps for FrameSteps<'a, G> {
+    ghost steps = { λ s. map G.step_of (path_of s.frame.bytes.now).gaps };
 
     fn len(&self) -> usize {
-        gaps(self.frame)
+        (self.frame.header().samples as usize).saturating_sub(1)
     }
 
-    fn up(&self, gap: usize) -> u32 {
-        class_step(self.frame, gap).up
-    }
-
-    fn down(&self, gap: usize) -> u32 {
-        class_step(self.frame, gap).down
-    }
-}
-
-/// How much squared speeds may rise and fall over each gap of a frame.
-#[derive(Clone, Copy)]
-pub struct SpeedSteps<'a> {
-    pub frame: PathFrame<'a>,
-}
-
-impl<'a> Steps for SpeedSteps<'a> {
-    ghost steps = { λ s. speed_steps (path_of s.frame.bytes.now) };
-
-    fn len(&self) -> usize {
-        gaps(self.frame)
-    }
-
-    fn up(&self, gap: usize) -> u32 {
-        speed_step(self.frame, gap).up
-    }
-
-    fn down(&self, gap: usize) -> u32 {
-        speed_step(self.frame, gap).down
+    fn step(&self, gap: usize) -> Step {
+        G::step(self.frame.gap(gap).unwrap())
     }
 }

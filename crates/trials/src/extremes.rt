@@ -21,10 +21,7 @@ fn cell<G: Grade>(value: u32) -> Result<Cell<G>, Fail> {
 
 // The number of an answer.
 fn number<G: Grade>(answer: Option<G>) -> i64 {
-    match answer {
-        Some(grade) => grade.rank() as i64,
-        None => -1,
-    }
+    answer.map_or(-1, |grade| grade.rank() as i64)
 }
 
 // What a row allows after and before its gap, where the neighbour is at `near`.

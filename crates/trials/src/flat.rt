@@ -5,7 +5,7 @@ ghost use Rattle.std.proofs.Common.{rules};
 use grade::{Cell, Grade};
 use limit::Limit;
 
-#[derive(Clone, Copy)]
+#[derive(Clone, Copy, Debug, PartialEq, Eq)]
 pub struct Flat<G> {
     pub most: G,
 }

@@ -1,4 +1,4 @@
-use Rattle.motion.specs.Soundness.{are_sound_lem}
+use Rattle.torque.specs.Soundness.{are_sound_lem}
 use Rattle.motion.proofs.SpeedLimits.{keeps_speed_limit}
 use Rattle.slices.proofs.speeds.speed_kept_exactly.Goals as goal
 

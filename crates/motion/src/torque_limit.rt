@@ -1,0 +1,108 @@
+// What rows of torque allow. Rows lie by gap, so that a sample asks only those of the gaps beside it, which a search by
+// halves finds.
+ghost use Rattle.std.specs.Prelude.{◌≡◌, ℕ, ◌+◌, ◌<◌, ◌≤◌, length};
+ghost use Rattle.grade.specs.Ranks.{ranks, speed_rank};
+ghost use Rattle.grade.specs.Tops.{speed_top};
+ghost use Rattle.limit.specs.Numbers.{number_of, KeptExactly, Greatest};
+ghost use Rattle.torque.specs.Rows.{row_at};
+ghost use Rattle.motion.specs.Rows.{WithinTorque, WithinTorqueAt};
+ghost use Rattle.motion.specs.Torques.{row_number, torque};
+ghost use Rattle.motion.specs.TorquesLemmas.{torque_low, torque_high, torque_outside, torque_mono};
+ghost use Rattle.grade.proofs.Ranking.{at_most_everywhere};
+
+use super::reading::unbounded;
+use super::rows::Rows;
+use super::spaced_row::SpacedRow;
+use grade::{Cell, Speed, lower};
+use limit::Limit;
+
+#[derive(Drop)]
+pub struct Torque<R> {
+    pub rows: R,
+}
+
+impl<R: Rows> Limit<Speed> for Torque<R> {
+    ghost number = { λ l p i. torque (R.Rows.spacing l.rows) (R.Rows.rows l.rows) p i };
+
+    ghost low = { λ l p i w. torque_low (R.Rows.spacing l.rows) (R.Rows.rows l.rows) p i };
+
+    ghost high = { λ l p i w. torque_high (R.Rows.spacing l.rows) (R.Rows.rows l.rows) p i };
+
+    ghost outside = { λ l p i w h. torque_outside (R.Rows.spacing l.rows) (R.Rows.rows l.rows) p i h };
+
+    ghost monotone = { λ l p q wp wq len le i. torque_mono (R.Rows.spacing l.rows) (R.Rows.rows l.rows) p q len (at_most_everywhere p q len le) i };
+
+    fn evaluate(&self, cells: &[Cell<Speed>], at: usize) -> Option<Speed> {
+        let rows = &self.rows;
+        let h = rows.spacing();
+        let mut least: Speed = unbounded();
+        for k in first_row(rows, at)..rows.len() {
+            let row = rows.row(k);
+            if row.gap as usize > at {
+                return Some(least);
+            }
+            let spaced = SpacedRow { h, row };
+            least = lower(least, spaced.allows(cells, at)?);
+        }
+        Some(least)
+    }
+}
+
+// What one row allows, by its number; the top where there is no such row.
+pub fn row_bound<R: Rows>(
+    limit: &Torque<R>,
+    row: usize,
+    cells: &[Cell<Speed>],
+    at: usize,
+) -> Option<Speed>
+    ensures { number_of speed_rank result ≡ row_number (R.Rows.spacing limit.now.rows) (R.Rows.rows limit.now.rows) row (ranks speed_rank cells.now) at }
+{
+    let rows = &limit.rows;
+    if row < rows.len() {
+        let spaced = SpacedRow {
+            h: rows.spacing(),
+            row: rows.row(row),
+        };
+        spaced.allows(cells, at)
+    } else {
+        Some(unbounded())
+    }
+}
+
+// The first row whose gap is not before the gap left of the sample. The library's search by halves goes over a slice, and
+// a source's rows may lie in bytes.
+fn first_row<R: Rows>(rows: &R, at: usize) -> usize
+    ensures within { result ≤ length (R.Rows.rows rows.now) }
+    ensures before { (k : ℕ) → k < result → (row_at (R.Rows.rows rows.now) k).gap + 1 < at }
+    ensures found { result < length (R.Rows.rows rows.now) → at ≤ (row_at (R.Rows.rows rows.now) result).gap + 1 }
+{
+    let mut low = 0;
+    let mut high = rows.len();
+    while low < high {
+        let middle = low + (high - low) / 2;
+        if rows.row(middle).gap as usize + 1 < at {
+            low = middle + 1;
+        } else {
+            high = middle;
+        }
+    }
+    low
+}
+
+// A profile keeps the rows exactly when each row whose two samples are there says of them
+// 2h × lo ≤ d × (w(i + 1) − w(i)) + 2h × (c × w(i) + g) ≤ 2h × hi.
+pub fn torque_kept_exactly<R: Rows>(limit: &Torque<R>)
+    ensures { KeptExactly speed_top (torque (R.Rows.spacing limit.now.rows) (R.Rows.rows limit.now.rows)) (WithinTorque (R.Rows.spacing limit.now.rows) (R.Rows.rows limit.now.rows)) }
+{}
+
+// What rows give is the greatest squared speed at the sample that keeps the side of each row that bounds it, its
+// neighbours as they are.
+pub fn torque_greatest<R: Rows>(
+    limit: &Torque<R>,
+    cells: &[Cell<Speed>],
+    at: usize,
+) -> Option<Speed>
+    ensures { Greatest speed_rank speed_top (WithinTorqueAt (R.Rows.spacing limit.now.rows) (R.Rows.rows limit.now.rows) (ranks speed_rank cells.now) at) result }
+{
+    limit.evaluate(cells, at)
+}
