@@ -8,9 +8,5 @@ use super::grade::Grade;
 pub fn from_rank<G: Grade>(number: u32) -> Option<G>
     ensures { rank_in G.Grade.rank result ≡ up_to G.Grade.top number }
 {
-    if number <= G::highest() {
-        Some(G::of_rank(number))
-    } else {
-        None
-    }
+    (number <= G::highest()).then(|| G::of_rank(number))
 }
