@@ -1,4 +1,4 @@
-// Grades: the values of a sample, each with a rank from 0 to the top of its make. Cells of them, and sheets of cells.
+// Grades: the values of a sample, each with a rank from 0 to the top of its make. Cells of them.
 #![tactic(auto)]
 
 mod cell;
@@ -6,7 +6,6 @@ mod class;
 mod grade;
 mod making;
 mod order;
-mod sheet;
 mod speed;
 
 pub use cell::Cell;
@@ -14,5 +13,4 @@ pub use class::Class;
 pub use grade::{Grade, Raisable};
 pub use making::from_rank;
 pub use order::{higher, lower};
-pub use sheet::Sheet;
 pub use speed::Speed;

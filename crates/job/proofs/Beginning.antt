@@ -1,5 +1,5 @@
 -- Sheets whose values begin at their caps, and the job over them.
-use Rattle.std.proofs.Common.{◌≡◌, ℕ, zero, suc, ◌≤◌, List, [], ◌∷◌, ◌++◌, map, length, take, drop, sym, refl, ap, ◌∙◌, subst, arith}
+use Rattle.std.proofs.Common.{◌≡◌, ℕ, zero, suc, ◌≤◌, List, [], ◌∷◌, ◌++◌, map, length, take, drop, Ok, Err, Result, IsErrAnd, sym, refl, ap, ◌∙◌, subst, arith}
 use Rattle.std.proofs.lemmas.List.{take_at, drop_at, length-map, length-take-le}
 use Rattle.grade.specs.declared.cell.Cell.{Cell}
 use Rattle.grade.specs.declared.class.Class.{Class}
@@ -8,21 +8,22 @@ use Rattle.grade.specs.Profiles.{Within}
 use Rattle.grade.specs.Ranks.{class_rank, speed_rank, ranked, ranked_all}
 use Rattle.grade.specs.Tops.{class_top, speed_top}
 use Rattle.limit.specs.Numbers.{Number}
+use Rattle.runs.specs.declared.call.Fault.{Fault}
 use Rattle.runs.specs.declared.samples.Samples.{Samples}
 use Rattle.runs.specs.declared.stage.Make.{Make}
 use Rattle.runs.specs.declared.stage.Make.TheVariants.{Classes, Speeds}
 use Rattle.runs.specs.declared.stage.Stage.TheVariants.{Working}
 use Rattle.runs.specs.Sheets.{Sheet}
 use Rattle.runs.specs.Jobs.{Job as Whole, job, fresh}
-use Rattle.runs.specs.Calls.{granted}
+use Rattle.runs.specs.Calls.{granted, refused}
 use Rattle.runs.specs.Making.{StartLaw, begun, checked, made}
 use Rattle.runs.specs.Runs.{run}
 use Rattle.runs.specs.Law.{RunLaw}
 use Rattle.sweep.specs.Beginnings.{at_cap}
 use Rattle.job.specs.declared.job.Job.{Job}
 use Rattle.job.specs.Whole.{top_of, whole, setting}
-use Rattle.job.specs.Holding.{held, whole_of, Led}
-use Rattle.job.specs.Making.{caps_of, floors_of, handed, start_of, opened, Made}
+use Rattle.job.specs.Holding.{held, whole_of, room_for, Led}
+use Rattle.job.specs.Making.{caps_of, floors_of, handed, start_of, opened, Made, Makes}
 use Rattle.job.proofs.Acting.{front_length}
 use Rattle.job.proofs.Lawful.{led_lawful}
 use Rattle.job.proofs.Rooms.{room_yes}
@@ -60,71 +61,73 @@ starts n a b classes speeds c-fit s-fit = record { caps_length = caps; floors_le
 start : (m n : ℕ) → Sheet → Sheet → Whole
 start m n X Y = job (checked m 0 X (checked n 0 Y (Working Classes))) fresh (record { classes = X; speeds = Y })
 
--- the front, k cells of each memory, begins
-module _ (samples : Samples) (k : ℕ) (cs cs' : List (Cell Class)) (ss ss' : List (Cell Speed)) (j : Job) (k_is : k ≡ samples.count) (cs-fit : samples.count ≤ length cs) (ss-fit : samples.count ≤ length ss)
-    (cs_is : cs' ≡ map at_cap (take k cs)) (ss_is : ss' ≡ map at_cap (take k ss)) (samples_are : j.samples ≡ samples) where
+-- the front of each memory, as long as there are samples, begins
+module _ (samples : Samples) (cs cs' : List (Cell Class)) (ss ss' : List (Cell Speed)) (j : Job) (fit : (samples.count ≤ length cs) × (samples.count ≤ length ss))
+    (cs_is : cs' ≡ map at_cap (take samples.count cs)) (ss_is : ss' ≡ map at_cap (take samples.count ss)) (samples_are : j.samples ≡ samples) where
   abbrev n : ℕ
   n = samples.count
 
-  long : {X : Type 0} (xs xs' : List (Cell X)) → n ≤ length xs → xs' ≡ map at_cap (take k xs) → length xs' ≡ k
-  long xs xs' fit is = ap length is ∙ length-map (take k xs) at_cap ∙ length-take-le k xs (omega arith)
+  long : {X : Type 0} (xs xs' : List (Cell X)) → n ≤ length xs → xs' ≡ map at_cap (take n xs) → length xs' ≡ n
+  long xs xs' enough is = ap length is ∙ length-map (take n xs) at_cap ∙ length-take-le n xs enough
 
-  front : {G : Type 0} (rank : G → ℕ) (xs xs' : List (Cell G)) → xs' ≡ map at_cap (take k xs)
+  front : {G : Type 0} (rank : G → ℕ) (xs xs' : List (Cell G)) → xs' ≡ map at_cap (take n xs)
       → ranked_all rank xs' ≡ begun (caps_of (ranked_all rank (take n xs))) (floors_of (ranked_all rank (take n xs)))
-  front rank xs xs' is =
-      ap (ranked_all rank) is ∙ begins rank (take k xs) ∙ ap (λ m. begun (caps_of (ranked_all rank (take m xs))) (floors_of (ranked_all rank (take m xs)))) k_is
+  front rank xs xs' is = ap (ranked_all rank) is ∙ begins rank (take n xs)
 
-  count_is : k ≡ j.samples.count
-  count_is = k_is ∙ ap (λ s. s.count) (sym samples_are)
+  count_is : n ≡ j.samples.count
+  count_is = ap (λ s. s.count) (sym samples_are)
 
-  cells_are : {X : Type 0} (xs xs' : List (Cell X)) → n ≤ length xs → xs' ≡ map at_cap (take k xs) → take n (xs' ++ drop k xs) ≡ map at_cap (take n xs)
-  cells_are xs xs' fit is = take_at xs' (drop k xs) n (long xs xs' fit is ∙ k_is) ∙ is ∙ ap (λ m. map at_cap (take m xs)) k_is
+  cells_are : {X : Type 0} (xs xs' : List (Cell X)) → n ≤ length xs → xs' ≡ map at_cap (take n xs) → take n (xs' ++ drop n xs) ≡ map at_cap (take n xs)
+  cells_are xs xs' enough is = take_at xs' (drop n xs) n (long xs xs' enough is) ∙ is
 
-  past_are : {X : Type 0} (xs xs' : List (Cell X)) → n ≤ length xs → xs' ≡ map at_cap (take k xs) → drop n (xs' ++ drop k xs) ≡ drop n xs
-  past_are xs xs' fit is = drop_at xs' (drop k xs) n (long xs xs' fit is ∙ k_is) ∙ ap (λ m. drop m xs) k_is
+  past_are : {X : Type 0} (xs xs' : List (Cell X)) → n ≤ length xs → xs' ≡ map at_cap (take n xs) → drop n (xs' ++ drop n xs) ≡ drop n xs
+  past_are xs xs' enough is = drop_at xs' (drop n xs) n (long xs xs' enough is)
 
-  job_is : j.sweep ≡ fresh → j.stage ≡ opened cs' ss' → (a b : Number) → whole_of (held j (cs' ++ drop k cs) (ss' ++ drop k ss)) ≡ made (setting n a b) (start_of n cs ss)
+  job_is : j.sweep ≡ fresh → j.stage ≡ opened cs' ss' → (a b : Number) → whole_of (held j (cs' ++ drop n cs) (ss' ++ drop n ss)) ≡ made (setting n a b) (start_of n cs ss)
   unfolding made start
   job_is sweep stage a b =
-      ap (λ l. whole j l (take j.samples.count (ss' ++ drop k ss))) (take_at cs' (drop k cs) j.samples.count (long cs cs' cs-fit cs_is ∙ count_is))
-      ∙ ap (λ l. whole j cs' l) (take_at ss' (drop k ss) j.samples.count (long ss ss' ss-fit ss_is ∙ count_is))
+      ap (λ l. whole j l (take j.samples.count (ss' ++ drop n ss))) (take_at cs' (drop n cs) j.samples.count (long cs cs' fit.0 cs_is ∙ count_is))
+      ∙ ap (λ l. whole j cs' l) (take_at ss' (drop n ss) j.samples.count (long ss ss' fit.1 ss_is ∙ count_is))
       ∙ ap (λ t. job t j.sweep (record { classes = ranked_all class_rank cs'; speeds = ranked_all speed_rank ss' })) stage
       ∙ ap (λ w. job (opened cs' ss') w (record { classes = ranked_all class_rank cs'; speeds = ranked_all speed_rank ss' })) sweep
-      ∙ ap (λ m. start m (length ss') (ranked_all class_rank cs') (ranked_all speed_rank ss')) (long cs cs' cs-fit cs_is ∙ k_is)
-      ∙ ap (λ m. start n m (ranked_all class_rank cs') (ranked_all speed_rank ss')) (long ss ss' ss-fit ss_is ∙ k_is)
+      ∙ ap (λ m. start m (length ss') (ranked_all class_rank cs') (ranked_all speed_rank ss')) (long cs cs' fit.0 cs_is)
+      ∙ ap (λ m. start n m (ranked_all class_rank cs') (ranked_all speed_rank ss')) (long ss ss' fit.1 ss_is)
       ∙ ap (λ X. start n n X (ranked_all speed_rank ss')) (front class_rank cs cs' cs_is)
       ∙ ap (start n n _) (front speed_rank ss ss' ss_is)
 
-  long_cs : length (cs' ++ drop k cs) ≡ length cs
-  long_cs = front_length k cs' cs (omega arith) (long cs cs' cs-fit cs_is)
+  long_cs : length (cs' ++ drop n cs) ≡ length cs
+  long_cs = front_length n cs' cs fit.0 (long cs cs' fit.0 cs_is)
 
-  long_ss : length (ss' ++ drop k ss) ≡ length ss
-  long_ss = front_length k ss' ss (omega arith) (long ss ss' ss-fit ss_is)
+  long_ss : length (ss' ++ drop n ss) ≡ length ss
+  long_ss = front_length n ss' ss fit.1 (long ss ss' fit.1 ss_is)
 
-  led : j.sweep ≡ fresh → j.stage ≡ opened cs' ss' → (a b : Number) → Led a b (start_of n cs ss) [] (held j (cs' ++ drop k cs) (ss' ++ drop k ss))
+  led : j.sweep ≡ fresh → j.stage ≡ opened cs' ss' → (a b : Number) → Led a b (start_of n cs ss) [] (held j (cs' ++ drop n cs) (ss' ++ drop n ss))
   unfolding run
-  led sweep stage a b =
-      let e = k_is in
-      let e' = count_is in
-      record {
-        start = subst (λ s. StartLaw (setting s.count a b) (start_of n cs ss)) (sym samples_are) (starts n a b cs ss cs-fit ss-fit);
-        room = room_yes j.samples.count (length (cs' ++ drop k cs)) (length (ss' ++ drop k ss)) granted (omega (arith, long_cs)) (omega (arith, long_ss));
-        job = job_is sweep stage a b ∙ ap (λ s. made (setting s.count a b) (start_of n cs ss)) (sym samples_are);
-      }
+  led sweep stage a b = record {
+    start = subst (λ s. StartLaw (setting s.count a b) (start_of n cs ss)) (sym samples_are) (starts n a b cs ss fit.0 fit.1);
+    room = room_yes j.samples.count (length (cs' ++ drop n cs)) (length (ss' ++ drop n ss)) granted (omega (arith, count_is, long_cs, fit.0)) (omega (arith, count_is, long_ss, fit.1));
+    job = job_is sweep stage a b ∙ ap (λ s. made (setting s.count a b) (start_of n cs ss)) (sym samples_are);
+  }
 
-  pub makes : j.sweep ≡ fresh → j.stage ≡ opened cs' ss' → Made samples cs (cs' ++ drop k cs) ss (ss' ++ drop k ss) j
+  pub makes : j.sweep ≡ fresh → j.stage ≡ opened cs' ss' → Made samples cs (cs' ++ drop n cs) ss (ss' ++ drop n ss) j
   makes sweep stage = record {
-    room = room_yes n (length cs) (length ss) granted cs-fit ss-fit;
+    room = room_yes n (length cs) (length ss) granted fit.0 fit.1;
     samples_are = samples_are;
     job = job_is sweep stage;
-    classes_are = cells_are cs cs' cs-fit cs_is;
-    speeds_are = cells_are ss ss' ss-fit ss_is;
-    past_classes = past_are cs cs' cs-fit cs_is;
-    past_speeds = past_are ss ss' ss-fit ss_is;
+    classes_are = cells_are cs cs' fit.0 cs_is;
+    speeds_are = cells_are ss ss' fit.1 ss_is;
+    past_classes = past_are cs cs' fit.0 cs_is;
+    past_speeds = past_are ss ss' fit.1 ss_is;
     long_classes = long_cs;
     long_speeds = long_ss;
     leads = led sweep stage;
     law = λ a b a_law b_law.
-        subst (λ s. RunLaw (setting s.count a b) (start_of n cs ss) [] (whole_of (held j (cs' ++ drop k cs) (ss' ++ drop k ss)))) samples_are
-        (led_lawful a b a_law b_law (start_of n cs ss) [] (held j (cs' ++ drop k cs) (ss' ++ drop k ss)) (led sweep stage a b));
+        subst (λ s. RunLaw (setting s.count a b) (start_of n cs ss) [] (whole_of (held j (cs' ++ drop n cs) (ss' ++ drop n ss)))) samples_are
+        (led_lawful a b a_law b_law (start_of n cs ss) [] (held j (cs' ++ drop n cs) (ss' ++ drop n ss)) (led sweep stage a b));
   }
+
+-- a making that the memory's questions refuse changes nothing
+pub unmakes : (samples : Samples) (cs : List (Cell Class)) (ss : List (Cell Speed)) (r : Result Job Fault) (f : Fault) → IsErrAnd r (λ e. e ≡ f)
+    → refused f ≡ room_for samples.count (length cs) (length ss) granted → Makes samples cs cs ss ss r
+unmakes samples cs ss (Ok j) f is no_is = absurd is
+unmakes samples cs ss (Err e) f is no_is = record { fault = ap refused is ∙ no_is; same_classes = refl; same_speeds = refl }

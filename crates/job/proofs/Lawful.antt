@@ -1,17 +1,19 @@
 -- The law over every call: the setting of a job over two lawful limits keeps its laws, so the theory's law speaks of it.
-use Rattle.std.proofs.Common.{◌≡◌, ℕ, zero, suc, ◌<◌, ◌≤◌, List, [], ◌∷◌, ◌++◌, length, sym, refl, ap, ◌∙◌, subst, ⊎_elim, le_trans, le_refl, arith, lit≤}
+use Rattle.std.proofs.Common.{◌≡◌, ℕ, zero, suc, ◌<◌, ◌≤◌, List, [], ◌∷◌, ◌++◌, length, take, drop, Ok, Err, Result, IsErrAnd, sym, refl, ap, ◌∙◌, subst, ⊎_elim, le_trans, le_refl, arith, lit≤}
 use Rattle.std.proofs.lemmas.Bool.{cases_eq}
+use Rattle.std.proofs.lemmas.List.{length-take-le}
 use Rattle.grade.specs.declared.cell.Cell.{Cell}
 use Rattle.grade.specs.declared.class.Class.{Class}
 use Rattle.grade.specs.declared.speed.Speed.{Speed}
 use Rattle.grade.specs.Tops.{class_top, speed_top}
 use Rattle.limit.specs.Numbers.{Number, LimitLaw}
-use Rattle.runs.specs.declared.call.Answer.{Answer}
-use Rattle.runs.specs.declared.call.Answer.TheVariants.{Refused}
 use Rattle.runs.specs.declared.call.Call.{Call}
 use Rattle.runs.specs.declared.call.Fault.{Fault}
 use Rattle.runs.specs.declared.stage.Make.{Make}
 use Rattle.runs.specs.declared.stage.Make.TheVariants.{Classes, Speeds}
+use Rattle.runs.specs.declared.reply.Reply.{Reply}
+use Rattle.runs.specs.declared.reply.Reply.TheVariants.{Done}
+use Rattle.runs.specs.Answers.{Answer}
 use Rattle.runs.specs.Settings.{SettingLaw}
 use Rattle.runs.specs.Making.{Start, StartLaw, made}
 use Rattle.runs.specs.Calls.{granted, refused, verdict, acted, replied, called, answered}
@@ -21,10 +23,10 @@ use Rattle.runs.proofs.Runs.{run_more}
 use Rattle.runs.proofs.Law.{runs_lawful}
 use Rattle.job.specs.declared.job.Job.{Job}
 use Rattle.job.specs.Table.{entry}
-use Rattle.job.specs.Whole.{top_of, limit_of, setting}
+use Rattle.job.specs.Whole.{top_of, limit_of, whole, setting}
 use Rattle.job.specs.Holding.{Held, held, count, whole_of, setting_of, room_for, room, judged, Led}
-use Rattle.job.specs.Calling.{asked, outcome, reply, Does, Lawful, Promises}
-use Rattle.job.proofs.Acting.{refuses}
+use Rattle.job.specs.Calling.{asked, outcome, reply, replying, Does, Lawful, Promises}
+use Rattle.job.proofs.Acting.{refused_is, acts_classes, acts_speeds}
 use Rattle.job.proofs.Rooms.{room_yes, room_both}
 
 -- the table never falls
@@ -66,20 +68,20 @@ module _ (a b : Number) where
       let v = verdict (setting_of a b h) call h.job.stage in
       ap (λ x. judged x (acted (setting_of a b h) call (whole_of h)) (λ _. whole_of h)) (room_yes (count h) (length h.classes) (length h.speeds) v fit.0 fit.1) ∙ same v
     where
-      same : (v : _) → judged v (acted (setting_of a b h) call (whole_of h)) (λ _. whole_of h) ≡ elim v [ granted ↦ acted (setting_of a b h) call (whole_of h) | refused f ↦ whole_of h ]
-      same granted = refl
-      same (refused f) = refl
+      same : (v : _) → judged v (acted (setting_of a b h) call (whole_of h)) (λ _. whole_of h) ≡ elim v [ Ok _ ↦ acted (setting_of a b h) call (whole_of h) | Err f ↦ whole_of h ]
+      same (Ok _) = refl
+      same (Err f) = refl
 
   pub reply_in_room : (call : Call) (h : Held) → room h ≡ granted → reply a b call h ≡ answered (setting_of a b h) call (whole_of h)
   unfolding answered
   reply_in_room call h roomy =
       let fit = room_both (count h) (length h.classes) (length h.speeds) roomy in
       let v = verdict (setting_of a b h) call h.job.stage in
-      ap (λ x. judged x (replied (setting_of a b h) call (whole_of h)) Refused) (room_yes (count h) (length h.classes) (length h.speeds) v fit.0 fit.1) ∙ same v
+      ap (λ x. judged x (Ok (replied (setting_of a b h) call (whole_of h))) Err) (room_yes (count h) (length h.classes) (length h.speeds) v fit.0 fit.1) ∙ same v
     where
-      same : (v : _) → judged v (replied (setting_of a b h) call (whole_of h)) Refused ≡ elim v [ granted ↦ replied (setting_of a b h) call (whole_of h) | refused f ↦ Refused f ]
-      same granted = refl
-      same (refused f) = refl
+      same : (v : _) → judged v (Ok (replied (setting_of a b h) call (whole_of h))) Err ≡ elim v [ Ok _ ↦ Ok (replied (setting_of a b h) call (whole_of h)) | Err f ↦ Err f ]
+      same (Ok _) = refl
+      same (Err f) = refl
 
   -- as long as before, the memories still hold the samples
   pub room_still : (h h' : Held) → h'.job.samples ≡ h.job.samples → length h'.classes ≡ length h.classes → length h'.speeds ≡ length h.speeds → room h ≡ granted → room h' ≡ granted
@@ -112,8 +114,25 @@ module _ (a b : Number) where
 pub promised : (call : Call) (h h' : Held) (x : Answer) → ((a b : Number) → Does a b call h h' x) → Promises call h h' x
 promised call h h' x does = record { does = does; law = λ a b a_law b_law. lawful_call a b a_law b_law call h h' x (does a b) }
 
--- and where it is refused
-pub promised_refused : (call : Call) (j : Job) (cs : List (Cell Class)) (ss : List (Cell Speed)) (x : Answer) (f : Fault) → x ≡ Refused f
-    → ((a b : Number) → refused f ≡ asked a b call (held j cs ss)) → Promises call (held j cs ss) (held j cs ss) x
-promised_refused call j cs ss x f e no_is =
-    promised call (held j cs ss) (held j cs ss) x (λ a b. subst (Does a b call (held j cs ss) (held j cs ss)) (sym e) (refuses a b call j cs ss f (no_is a b)))
+-- and where it is refused, so that a method that asks first returns r
+pub promised_refused : {X : Type 0} (call : Call) (j : Job) (cs : List (Cell Class)) (ss : List (Cell Speed)) (made : X → Reply) (r : Result X Fault) (f : Fault) → IsErrAnd r (λ e. e ≡ f)
+    → ((a b : Number) → refused f ≡ asked a b call (held j cs ss)) → Promises call (held j cs ss) (held j cs ss) (replying made r)
+promised_refused call j cs ss made r f is no_is =
+    promised call (held j cs ss) (held j cs ss) (replying made r) (λ a b. refused_is a b call (held j cs ss) made r f is (no_is a b))
+
+-- a change of one memory that is done, as a cut or a lift makes it: cells' are the ones in place of the job's
+module _ (call : Call) (j j' : Job) (cs : List (Cell Class)) (ss : List (Cell Speed)) (yes_is : (a b : Number) → granted ≡ asked a b call (held j cs ss))
+    (fit : (j.samples.count ≤ length cs) × (j.samples.count ≤ length ss)) (samples : j'.samples ≡ j.samples)
+    (replies : (a b : Number) → replied (setting_of a b (held j cs ss)) call (whole_of (held j cs ss)) ≡ Done) where
+  abbrev h : Held
+  h = held j cs ss
+
+  pub class_changed : (cells' : List (Cell Class)) → length cells' ≡ length (take (count h) cs) → ((a b : Number) → whole j' cells' (take (count h) ss) ≡ acted (setting_of a b h) call (whole_of h))
+      → Promises call h (held j' (cells' ++ drop (count h) cs) ss) (Ok Done)
+  class_changed cells' long changed = promised call h (held j' (cells' ++ drop (count h) cs) ss) (Ok Done)
+      (λ a b. acts_classes a b call j cs ss (yes_is a b) fit.0 fit.1 j' samples (Ok Done) cells' (long ∙ length-take-le (count h) cs fit.0) (changed a b) (ap Ok (sym (replies a b))))
+
+  pub speed_changed : (cells' : List (Cell Speed)) → length cells' ≡ length (take (count h) ss) → ((a b : Number) → whole j' (take (count h) cs) cells' ≡ acted (setting_of a b h) call (whole_of h))
+      → Promises call h (held j' cs (cells' ++ drop (count h) ss)) (Ok Done)
+  speed_changed cells' long changed = promised call h (held j' cs (cells' ++ drop (count h) ss)) (Ok Done)
+      (λ a b. acts_speeds a b call j cs ss (yes_is a b) fit.0 fit.1 j' samples (Ok Done) cells' (long ∙ length-take-le (count h) ss fit.1) (changed a b) (ap Ok (sym (replies a b))))

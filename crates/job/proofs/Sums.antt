@@ -1,5 +1,5 @@
 -- The allowance that suffices: the sums of a sheet's values, and that it ends the work.
-use Rattle.std.proofs.Common.{◌≡◌, ℕ, ◌+◌, ◌*◌, ◌≤◌, List, [], ◌∷◌, ◌++◌, take, sum_by, sum, sym, refl, ap, ◌∙◌, subst, arith}
+use Rattle.std.proofs.Common.{◌≡◌, ℕ, ◌+◌, ◌*◌, ◌≤◌, List, [], ◌∷◌, ◌++◌, sum_by, sum, sym, refl, ap, ◌∙◌, subst, arith}
 use Rattle.std.proofs.lemmas.List.Sums.{sum-map}
 use Rattle.grade.specs.declared.cell.Cell.{Cell}
 use Rattle.grade.specs.Ranks.{ranked_all}
@@ -18,14 +18,13 @@ use Rattle.job.proofs.Lawful.{lawful_setting}
 sum-values : {G : Type 0} (rank : G → ℕ) (cells : List (Cell G)) → sum (values (ranked_all rank cells)) ≡ sum_by (λ c. rank c.value) cells
 sum-values rank cells = ap sum (values_ranked rank cells) ∙ sum-map (λ c. rank c.value) cells
 
--- the sum over the front, k cells
-pub front_sum : {G : Type 0} (rank : G → ℕ) (cells : List (Cell G)) (k n r : ℕ) → k ≡ n → r ≡ sum_by (λ c. rank c.value) (take k cells)
-    → r ≡ sum (values (ranked_all rank (take n cells)))
-front_sum rank cells k n r k_is e = e ∙ ap (λ m. sum_by (λ c. rank c.value) (take m cells)) k_is ∙ sym (sum-values rank (take n cells))
+-- a sum as the code makes it
+pub summed : {G : Type 0} (rank : G → ℕ) (cells : List (Cell G)) (r : ℕ) → r ≡ sum_by (λ c. rank c.value) cells → r ≡ sum (values (ranked_all rank cells))
+summed rank cells r e = e ∙ sym (sum-values rank cells)
 
 -- the product as the code makes it
-pub product_is : (n a b c s spare : ℕ) → a ≡ c → b ≡ s → spare ≡ 3 → n * (a + b + spare) ≡ n * (c + s + 3)
-product_is n a b c s spare a_is b_is spare_is = ap (λ x. n * (x + b + spare)) a_is ∙ ap (λ x. n * (c + x + spare)) b_is ∙ ap (λ x. n * (c + s + x)) spare_is
+pub product_is : (n a b c s : ℕ) → a ≡ c → b ≡ s → n * (a + b + 3) ≡ n * (c + s + 3)
+product_is n a b c s a_is b_is = ap (λ x. n * (x + b + 3)) a_is ∙ ap (λ x. n * (c + x + 3)) b_is
 
 pub suffices : (h : Held) (k : ℕ) → room h ≡ granted → k ≡ count h * (sum (own (whole_of h).sheets Classes) + sum (own (whole_of h).sheets Speeds) + 3) → Suffices h k
 suffices h k roomy is = record {

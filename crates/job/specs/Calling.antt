@@ -2,17 +2,18 @@
 use Rattle.std.specs.Prelude.{◌≡◌, ℕ, ◌<◌, ◌≤◌, List, [], ◌∷◌, ◌++◌, length, take, drop, Ok, Err, Result}
 use Rattle.grade.specs.Tops.{class_top, speed_top}
 use Rattle.limit.specs.Numbers.{Number, LimitLaw}
-use Rattle.runs.specs.declared.call.Answer.{Answer}
-use Rattle.runs.specs.declared.call.Answer.TheVariants.{Refused, Advanced, Done, Seen}
 use Rattle.runs.specs.declared.call.Call.{Call}
 use Rattle.runs.specs.declared.call.Call.TheVariants.{Advance, Cut, Lift, Look}
 use Rattle.runs.specs.declared.call.Fault.{Fault}
+use Rattle.runs.specs.declared.reply.Progress.{Progress}
+use Rattle.runs.specs.declared.reply.Reply.{Reply}
+use Rattle.runs.specs.declared.reply.Reply.TheVariants.{Advanced, Done, Seen}
+use Rattle.runs.specs.declared.reply.Sight.{Sight}
+use Rattle.runs.specs.Answers.{Answer}
 use Rattle.runs.specs.Jobs.{Job as Whole}
 use Rattle.runs.specs.Making.{Start}
 use Rattle.runs.specs.Calls.{Verdict, verdict, acted, replied}
 use Rattle.runs.specs.Law.{RunLaw}
-use Rattle.job.specs.declared.progress.Progress.{Progress}
-use Rattle.job.specs.declared.looking.Sight.{Sight}
 use Rattle.job.specs.Grades.{class_of, speed_of, cells_of}
 use Rattle.job.specs.Whole.{top_of}
 use Rattle.job.specs.Holding.{Held, count, whole_of, setting_of, room_for, judged, Led}
@@ -27,7 +28,7 @@ outcome a b call h = judged (asked a b call h) (acted (setting_of a b h) call (w
 
 -- what a call answers
 abbrev pub reply : (a b : Number) → Call → Held → Answer
-reply a b call h = judged (asked a b call h) (replied (setting_of a b h) call (whole_of h)) Refused
+reply a b call h = judged (asked a b call h) (Ok (replied (setting_of a b h) call (whole_of h))) Err
 
 -- h' holds the sheets of the job j, cell by cell, and past its samples what h held
 pub record Holds (j : Whole) (h h' : Held) : Type 0 where
@@ -48,7 +49,7 @@ pub record Does (a b : Number) (call : Call) (h h' : Held) (x : Answer) : Type 0
   pub answer : x ≡ reply a b call h
   pub holds : Holds (outcome a b call h) h h'
   -- refused, it leaves the very job and the very cells
-  pub unchanged : (f : Fault) → x ≡ Refused f → h' ≡ h
+  pub unchanged : (f : Fault) → x ≡ Err f → h' ≡ h
 
 -- whatever lawful start and earlier calls led to h, they lead to h' with these calls added, and the law holds of them all
 pub record Lawful (a b : Number) (calls : List Call) (h h' : Held) : Type 0 where
@@ -60,18 +61,20 @@ pub record Promises (call : Call) (h h' : Held) (x : Answer) : Type 0 where
   pub does : (a b : Number) → Does a b call h h' x
   pub law : (a b : Number) → LimitLaw class_top a → LimitLaw speed_top b → Lawful a b (call ∷ []) h h'
 
+-- what a method that asks returns, as an answer, where it makes this reply of what it was asked for
+abbrev pub replying : {X : Type 0} → (X → Reply) → Result X Fault → Answer
+replying with (Ok x) = Ok (with x)
+replying with (Err f) = Err f
+
 -- what an advance, a change and a look return, as answers
 abbrev pub told : Result Progress Fault → Answer
-told (Ok p) = Advanced p.stage p.evaluations p.lowerings
-told (Err f) = Refused f
+told r = replying Advanced r
 
 abbrev pub done : Result (Unit {0}) Fault → Answer
-done (Ok _) = Done
-done (Err f) = Refused f
+done r = replying (λ _. Done) r
 
 abbrev pub seen : Result Sight Fault → Answer
-seen (Ok s) = Seen s.stage s.class s.speed
-seen (Err f) = Refused f
+seen r = replying Seen r
 
 -- the numbers of a call are of the path and of the make
 abbrev pub InRange : ℕ → Call → Type 0

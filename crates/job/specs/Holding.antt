@@ -1,8 +1,7 @@
 -- A job with the two memories that are handed beside it, and the starts and calls that lead to one.
-use Rattle.std.specs.Prelude.{◌≡◌, ℕ, List, length, take, Ok, Err, Result, nat_le}
+use Rattle.std.specs.Prelude.{◌≡◌, ℕ, List, length, take, Ok, Err, nat_le}
 use Rattle.grade.specs.declared.cell.Cell.{Cell}
 use Rattle.grade.specs.declared.class.Class.{Class}
-use Rattle.grade.specs.declared.sheet.Sheet.{Sheet as SheetOf}
 use Rattle.grade.specs.declared.speed.Speed.{Speed}
 use Rattle.limit.specs.Numbers.{Number}
 use Rattle.runs.specs.declared.call.Call.{Call}
@@ -11,7 +10,7 @@ use Rattle.runs.specs.declared.call.Fault.TheVariants.{NoClassMemory, NoSpeedMem
 use Rattle.runs.specs.Settings.{Setting}
 use Rattle.runs.specs.Jobs.{Job as Whole}
 use Rattle.runs.specs.Making.{Start, StartLaw}
-use Rattle.runs.specs.Calls.{Verdict, granted, refused, ask}
+use Rattle.runs.specs.Calls.{Verdict, granted, ask}
 use Rattle.runs.specs.Runs.{after}
 use Rattle.job.specs.declared.job.Job.{Job}
 use Rattle.job.specs.Whole.{whole, setting}
@@ -24,10 +23,6 @@ pub record Held : Type 0 where
 
 abbrev pub held : Job → List (Cell Class) → List (Cell Speed) → Held
 held j classes speeds = record { job = j; classes = classes; speeds = speeds }
-
--- a job and two sheets
-abbrev pub over : Job → SheetOf Class → SheetOf Speed → Held
-over j classes speeds = held j classes.cells.now speeds.cells.now
 
 -- how many samples the job has
 abbrev pub count : Held → ℕ
@@ -51,13 +46,8 @@ room h = room_for (count h) (length h.classes) (length h.speeds) granted
 
 -- what follows a yes, or the fault of the first no
 abbrev pub judged : {X : Type 0} → Verdict → X → (Fault → X) → X
-judged granted x fault = x
-judged (refused f) x fault = fault f
-
--- what a method that asks returns, as a verdict
-abbrev pub verdict_of : {X : Type 0} → Result X Fault → Verdict
-verdict_of (Ok _) = granted
-verdict_of (Err f) = refused f
+judged (Ok _) x fault = x
+judged (Err f) x fault = fault f
 
 -- under limits of these numbers, a job newly made from the start s stands so after the calls cs
 pub record Led (a b : Number) (s : Start) (cs : List Call) (h : Held) : Type 0 where

@@ -1,26 +1,23 @@
 // Advancing: steps within an allowance.
 ghost use Rattle.std.specs.Prelude.{◌≡◌, [], ◌∷◌, length};
 ghost use Rattle.runs.specs.declared.call.Call.TheVariants.{Advance};
-ghost use Rattle.runs.specs.Calls.{advanced};
+ghost use Rattle.runs.specs.Calls.{advanced, progress};
 ghost use Rattle.job.specs.Calling.{Does, Lawful, told};
-ghost use Rattle.job.specs.Holding.{over};
+ghost use Rattle.job.specs.Holding.{held};
 ghost use Rattle.job.specs.Steps.{at_work_of};
-ghost use Rattle.job.specs.Whole.{whole, setting, course};
+ghost use Rattle.job.specs.Whole.{whole, setting};
 
 use super::job::Job;
-use super::progress::Progress;
-use grade::{Cell, Class, Sheet, Speed};
+use super::limits::Limits;
+use grade::{Cell, Class, Speed};
 use limit::{Limit, lawful};
-use runs::{Call, Fault, Stage};
+use runs::{Call, Fault, Progress, Stage};
 
 impl Job {
     fn at_work(&self) -> bool
         ensures { result ≡ at_work_of self.now.stage }
     {
-        match self.stage {
-            Stage::Working(_) => true,
-            Stage::Settled | Stage::Impossible(_) => false,
-        }
+        matches!(self.stage, Stage::Working(_))
     }
 
     // Steps until the allowance is used or the work ends.
@@ -28,24 +25,27 @@ impl Job {
         &mut self,
         classes: &mut [Cell<Class>],
         speeds: &mut [Cell<Speed>],
-        class_limit: &C,
-        speed_limit: &S,
+        limits: &Limits<'_, C, S>,
         allowance: u64,
     ) -> Progress
         requires { (length classes.old ≡ self.old.samples.count) × (length speeds.old ≡ self.old.samples.count) }
         ensures samples { self.new.samples ≡ self.old.samples }
-        ensures stage { result.stage ≡ self.new.stage }
-        ensures advanced { course (whole self.new classes.new speeds.new) result.evaluations result.lowerings ≡ advanced (setting self.old.samples.count (C.Limit.number class_limit.now) (S.Limit.number speed_limit.now)) allowance (whole self.old classes.old speeds.old) }
+        ensures came { let came = advanced (setting self.old.samples.count (C.Limit.number limits.now.classes.now) (S.Limit.number limits.now.speeds.now)) allowance (whole self.old classes.old speeds.old) in (whole self.new classes.new speeds.new ≡ came.job) × (result ≡ progress came) }
     {
-        let mut evaluations = 0;
         let mut lowerings = 0;
-        while evaluations < allowance && self.at_work() {
-            lowerings += self.step(classes, speeds, class_limit, speed_limit);
-            evaluations += 1;
+        for evaluations in 0..allowance {
+            if !self.at_work() {
+                return Progress {
+                    stage: self.stage,
+                    evaluations,
+                    lowerings,
+                };
+            }
+            lowerings += self.step(classes, speeds, limits);
         }
         Progress {
             stage: self.stage,
-            evaluations,
+            evaluations: allowance,
             lowerings,
         }
     }
@@ -53,27 +53,18 @@ impl Job {
     // Evaluates until the allowance is used or the job is settled or impossible.
     pub fn advance<C: Limit<Class>, S: Limit<Speed>>(
         &mut self,
-        classes: &mut Sheet<'_, Class>,
-        speeds: &mut Sheet<'_, Speed>,
-        class_limit: &C,
-        speed_limit: &S,
+        classes: &mut [Cell<Class>],
+        speeds: &mut [Cell<Speed>],
+        limits: &Limits<'_, C, S>,
         allowance: u64,
     ) -> Result<Progress, Fault>
-        ensures lent { (classes.new.cells.ghost_name ≡ classes.old.cells.ghost_name) × (speeds.new.cells.ghost_name ≡ speeds.old.cells.ghost_name) }
-        ensures does { Does (C.Limit.number class_limit.now) (S.Limit.number speed_limit.now) (Advance allowance) (over self.old classes.old speeds.old) (over self.new classes.new speeds.new) (told result) }
-        ensures law { Lawful (C.Limit.number class_limit.now) (S.Limit.number speed_limit.now) (Advance allowance ∷ []) (over self.old classes.old speeds.old) (over self.new classes.new speeds.new) }
+        ensures does { Does (C.Limit.number limits.now.classes.now) (S.Limit.number limits.now.speeds.now) (Advance allowance) (held self.old classes.old speeds.old) (held self.new classes.new speeds.new) (told result) }
+        ensures law { Lawful (C.Limit.number limits.now.classes.now) (S.Limit.number limits.now.speeds.now) (Advance allowance ∷ []) (held self.old classes.old speeds.old) (held self.new classes.new speeds.new) }
     {
-        lawful(class_limit);
-        lawful(speed_limit);
-        let call = Call::Advance(allowance);
-        self.ask(classes.cells.len(), speeds.cells.len(), call)?;
+        lawful(limits.classes);
+        lawful(limits.speeds);
+        self.ask(classes.len(), speeds.len(), Call::Advance(allowance))?;
         let n = self.samples.count;
-        Ok(self.work(
-            &mut classes.cells[0..n],
-            &mut speeds.cells[0..n],
-            class_limit,
-            speed_limit,
-            allowance,
-        ))
+        Ok(self.work(&mut classes[..n], &mut speeds[..n], limits, allowance))
     }
 }

@@ -3,8 +3,9 @@ ghost use Rattle.std.specs.Prelude.{◌≡◌, map};
 ghost use Rattle.job.specs.Making.{opened, Makes};
 ghost use Rattle.sweep.specs.Beginnings.{at_cap};
 
+use super::asking::ask_memory;
 use super::job::Job;
-use grade::{Cell, Class, Sheet, Speed};
+use grade::{Cell, Class, Speed};
 use runs::{Fault, Make, Samples, Stage};
 use sweep::{FRESH, begin, check};
 
@@ -22,21 +23,15 @@ fn begin_both(classes: &mut [Cell<Class>], speeds: &mut [Cell<Speed>]) -> Stage
 impl Job {
     // A job over as many cells of each sheet as there are samples: their caps and floors count, their values begin anew.
     pub fn make(
-        classes: &mut Sheet<'_, Class>,
-        speeds: &mut Sheet<'_, Speed>,
+        classes: &mut [Cell<Class>],
+        speeds: &mut [Cell<Speed>],
         samples: Samples,
     ) -> Result<Job, Fault>
-        ensures lent { (classes.new.cells.ghost_name ≡ classes.old.cells.ghost_name) × (speeds.new.cells.ghost_name ≡ speeds.old.cells.ghost_name) }
-        ensures makes { Makes samples classes.old.cells.now classes.new.cells.now speeds.old.cells.now speeds.new.cells.now result }
+        ensures { Makes samples classes.old classes.new speeds.old speeds.new result }
     {
+        ask_memory(samples, classes.len(), speeds.len())?;
         let n = samples.count;
-        if classes.cells.len() < n {
-            return Err(Fault::NoClassMemory);
-        }
-        if speeds.cells.len() < n {
-            return Err(Fault::NoSpeedMemory);
-        }
-        let stage = begin_both(&mut classes.cells[0..n], &mut speeds.cells[0..n]);
+        let stage = begin_both(&mut classes[..n], &mut speeds[..n]);
         Ok(Job {
             samples,
             stage,

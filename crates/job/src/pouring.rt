@@ -13,13 +13,12 @@ pub fn pour(classes: &[Cell<Class>], speeds: &mut [Cell<Speed>]) -> Stage
     requires { length classes.now ≡ length speeds.old }
     ensures { job result fresh (sheets_of classes.now speeds.new) ≡ poured entry (length speeds.old) 0 (sheets_of classes.now speeds.old) }
 {
-    for at in 0..speeds.len() {
+    for (at, speed) in speeds.iter_mut().enumerate() {
         let top = top_speed(classes[at].value);
-        let cell = speeds[at];
-        if top.rank() < cell.floor.rank() {
+        if top.rank() < speed.floor.rank() {
             return Stage::Impossible(at);
         }
-        speeds[at].value = lower(cell.value, top);
+        speed.value = lower(speed.value, top);
     }
     Stage::Working(Make::Speeds)
 }

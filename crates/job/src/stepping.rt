@@ -6,6 +6,7 @@ ghost use Rattle.job.specs.Steps.{follows, stepped, fallen};
 ghost use Rattle.job.specs.Whole.{whole, sheets_of, setting};
 
 use super::job::Job;
+use super::limits::Limits;
 use super::pouring::pour;
 use grade::{Cell, Class, Speed};
 use limit::Limit;
@@ -47,24 +48,23 @@ impl Job {
         &mut self,
         classes: &mut [Cell<Class>],
         speeds: &mut [Cell<Speed>],
-        class_limit: &C,
-        speed_limit: &S,
+        limits: &Limits<'_, C, S>,
     ) -> u64
         requires { (length classes.old ≡ self.old.samples.count) × (length speeds.old ≡ self.old.samples.count) }
         ensures samples { self.new.samples ≡ self.old.samples }
-        ensures stepped { whole self.new classes.new speeds.new ≡ stepped (setting self.old.samples.count (C.Limit.number class_limit.now) (S.Limit.number speed_limit.now)) self.old.stage self.old.sweep (sheets_of classes.old speeds.old) }
-        ensures fallen { result ≡ fallen (setting self.old.samples.count (C.Limit.number class_limit.now) (S.Limit.number speed_limit.now)) self.old.stage self.old.sweep (sheets_of classes.old speeds.old) }
+        ensures stepped { whole self.new classes.new speeds.new ≡ stepped (setting self.old.samples.count (C.Limit.number limits.now.classes.now) (S.Limit.number limits.now.speeds.now)) self.old.stage self.old.sweep (sheets_of classes.old speeds.old) }
+        ensures fallen { result ≡ fallen (setting self.old.samples.count (C.Limit.number limits.now.classes.now) (S.Limit.number limits.now.speeds.now)) self.old.stage self.old.sweep (sheets_of classes.old speeds.old) }
     {
         match self.stage {
             Stage::Working(Make::Classes) => {
-                let step = sweep_step(classes, class_limit, self.sweep);
+                let step = sweep_step(classes, limits.classes, self.sweep);
                 self.follow(step.at, step.outcome, classes, speeds);
-                step.lowerings
+                step.lowerings()
             }
             Stage::Working(Make::Speeds) => {
-                let step = sweep_step(speeds, speed_limit, self.sweep);
+                let step = sweep_step(speeds, limits.speeds, self.sweep);
                 self.follow(step.at, step.outcome, classes, speeds);
-                step.lowerings
+                step.lowerings()
             }
             Stage::Settled | Stage::Impossible(_) => 0,
         }

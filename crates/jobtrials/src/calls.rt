@@ -1,8 +1,8 @@
 // Every call at every stage, the questions before it, and the memory beside the job.
 use super::path::{cell, example, planned};
-use grade::{Cell, Class, Grade, Sheet};
+use grade::{Cell, Class, Grade};
 use job::Job;
-use runs::{Answer, Call, Fault, Make, Samples, Stage};
+use runs::{Answer, Call, Fault, Make, Reply, Samples, Sight, Stage};
 use std::process::Abort;
 use std::test::Fail;
 
@@ -23,7 +23,7 @@ const TO_IMPOSSIBLE: Call = Call::Lift(Make::Speeds, 1, 10);
 fn tried(first: Call, call: Call) -> Result<(Answer, Stage), Fail> {
     let mut classes: [Cell<Class>; 3] = [cell(7, 0)?; 3];
     let mut speeds = example()?;
-    let mut answers = [Answer::Done; 2];
+    let mut answers = [Ok(Reply::Done); 2];
     let stage = planned(&mut classes, &mut speeds, &[first, call], &mut answers)?;
     Ok((answers[1], stage))
 }
@@ -36,10 +36,10 @@ fn changes(
     at_speeds: Stage,
     at_settled: Stage,
 ) -> Result<(), Fail> {
-    assert_eq!(rt; tried(TO_CLASSES, call)?, (Answer::Done, at_classes));
-    assert_eq!(rt; tried(TO_SPEEDS, call)?, (Answer::Done, at_speeds));
-    assert_eq!(rt; tried(TO_SETTLED, call)?, (Answer::Done, at_settled));
-    let refused = Answer::Refused(Fault::JobImpossible);
+    assert_eq!(rt; tried(TO_CLASSES, call)?, (Ok(Reply::Done), at_classes));
+    assert_eq!(rt; tried(TO_SPEEDS, call)?, (Ok(Reply::Done), at_speeds));
+    assert_eq!(rt; tried(TO_SETTLED, call)?, (Ok(Reply::Done), at_settled));
+    let refused = Err(Fault::JobImpossible);
     assert_eq!(rt;
         tried(TO_IMPOSSIBLE, call)?,
         (refused, Stage::Impossible(1))
@@ -99,7 +99,7 @@ fn a_lift_above_the_value_is_impossible(rt: HostRuntime) -> Result<(), Fail> {
 
 #[test]
 fn advances_and_looks_at_every_stage(rt: HostRuntime) -> Result<(), Fail> {
-    let refused = Answer::Refused(Fault::JobImpossible);
+    let refused = Err(Fault::JobImpossible);
     let failed = Stage::Impossible(1);
     assert_eq!(rt; tried(TO_CLASSES, Call::Advance(2))?.1, CLASSES);
     assert_eq!(rt; tried(TO_SPEEDS, Call::Advance(5))?.1, SPEEDS);
@@ -108,11 +108,11 @@ fn advances_and_looks_at_every_stage(rt: HostRuntime) -> Result<(), Fail> {
     assert_eq!(rt; tried(TO_CLASSES, Call::Look(2))?.1, CLASSES);
     assert_eq!(rt; tried(TO_SPEEDS, Call::Look(2))?.1, SPEEDS);
     assert_eq!(rt; tried(TO_SETTLED, Call::Look(2))?.1, Stage::Settled);
-    let seen = Answer::Seen {
+    let seen = Ok(Reply::Seen(Sight {
         stage: failed,
         class: 7,
         speed: 9,
-    };
+    }));
     assert_eq!(rt; tried(TO_IMPOSSIBLE, Call::Look(2))?, (seen, failed));
     Ok(())
 }
@@ -120,8 +120,8 @@ fn advances_and_looks_at_every_stage(rt: HostRuntime) -> Result<(), Fail> {
 // Each number may be any of 64 bits, and the first question that fails gives its number.
 #[test]
 fn questions_in_their_order(rt: HostRuntime) -> Result<(), Fail> {
-    let no_sample = Answer::Refused(Fault::NoSample);
-    let above_top = Answer::Refused(Fault::AboveTop);
+    let no_sample = Err(Fault::NoSample);
+    let above_top = Err(Fault::AboveTop);
     let cut = Call::Cut(Make::Speeds, 3, u64::MAX);
     assert_eq!(rt; tried(TO_IMPOSSIBLE, cut)?.0, no_sample);
     let lift = Call::Lift(Make::Classes, 0, 8);
@@ -146,21 +146,17 @@ fn counts_of_samples(rt: HostRuntime) -> Result<(), Fail> {
 // Two cells are too few for three samples, at making and beside a job.
 #[test]
 fn memory_is_asked_for(rt: HostRuntime) -> Result<(), Fail> {
-    let mut class_cells: [Cell<Class>; 3] = [cell(7, 0)?; 3];
-    let mut speed_cells = example()?;
-    let mut short_cells = [cell(9, 0)?; 2];
-    let mut classes = Sheet::new(&mut class_cells);
-    let mut speeds = Sheet::new(&mut speed_cells);
-    let mut short = Sheet::new(&mut short_cells);
+    let mut classes: [Cell<Class>; 3] = [cell(7, 0)?; 3];
+    let mut speeds = example()?;
+    let mut short = [cell(9, 0)?; 2];
     let samples = Samples::new(3)?;
     let made = Job::make(&mut classes, &mut short, samples);
     assert_eq!(rt; made.err(), Some(Fault::NoSpeedMemory));
     let mut job = Job::make(&mut classes, &mut speeds, samples)?;
     let cut = job.speed_cut(&classes, &mut short, 0, 0);
     assert_eq!(rt; cut.err(), Some(Fault::NoSpeedMemory));
-    let left = &*short.cells;
-    assert!(rt; left.len() == 2);
-    assert_eq!(rt; left[0].cap.rank(), 9);
+    assert!(rt; short.len() == 2);
+    assert_eq!(rt; short[0].cap.rank(), 9);
     assert_eq!(rt; job.sufficient_allowance(&classes, &speeds)?, 126);
     Ok(())
 }
@@ -170,7 +166,7 @@ fn memory_is_asked_for(rt: HostRuntime) -> Result<(), Fail> {
 fn calls_without_a_place_are_not_made(rt: HostRuntime) -> Result<(), Fail> {
     let mut classes: [Cell<Class>; 3] = [cell(7, 0)?; 3];
     let mut speeds = example()?;
-    let mut answers = [Answer::Done];
+    let mut answers = [Ok(Reply::Done)];
     let calls = [Call::Look(0), Call::Advance(126)];
     let stage = planned(&mut classes, &mut speeds, &calls, &mut answers)?;
     assert_eq!(rt; stage, CLASSES);

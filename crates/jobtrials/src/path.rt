@@ -1,6 +1,6 @@
 // The path of the trials: three samples, a ramp of 1 up and any fall, an average that never binds, free classes.
-use grade::{Cell, Class, Grade, Sheet, Speed, from_rank};
-use job::Job;
+use grade::{Cell, Class, Grade, Speed, from_rank};
+use job::Limits;
 use limit::Pair;
 use motion::{Average, Ramp, Step};
 use runs::{Answer, Call, Samples, Stage};
@@ -28,8 +28,8 @@ pub fn example() -> Result<[Cell<Speed>; 3], Fail> {
 
 // The stage of a job over these cells after the calls.
 pub fn planned(
-    class_cells: &mut [Cell<Class>],
-    speed_cells: &mut [Cell<Speed>],
+    classes: &mut [Cell<Class>],
+    speeds: &mut [Cell<Speed>],
     calls: &[Call],
     answers: &mut [Answer],
 ) -> Result<Stage, Fail> {
@@ -47,16 +47,10 @@ pub fn planned(
             offsets: OffsetSlice { offsets: &offsets },
         },
     };
-    let mut classes = Sheet::new(class_cells);
-    let mut speeds = Sheet::new(speed_cells);
-    let job = plan(
-        Samples::new(3)?,
-        &mut classes,
-        &mut speeds,
-        &class_limit,
-        &speed_limit,
-        calls,
-        answers,
-    )?;
+    let limits = Limits {
+        classes: &class_limit,
+        speeds: &speed_limit,
+    };
+    let job = plan(Samples::new(3)?, classes, speeds, &limits, calls, answers)?;
     Ok(job.stage())
 }

@@ -1,24 +1,24 @@
 // How jobs end: settled, or impossible at a sample.
 use super::path::{M, cell, example, planned};
 use grade::{Cell, Class};
-use runs::{Answer, Call, Make, Stage};
+use runs::{Answer, Call, Make, Progress, Reply, Sight, Stage};
 use std::test::Fail;
 
 // An answer of an advance.
 fn advanced(stage: Stage, evaluations: u64, lowerings: u64) -> Answer {
-    Answer::Advanced {
+    Ok(Reply::Advanced(Progress {
         stage,
         evaluations,
         lowerings,
-    }
+    }))
 }
 
 fn seen(stage: Stage, class: u32, speed: u32) -> Answer {
-    Answer::Seen {
+    Ok(Reply::Seen(Sight {
         stage,
         class,
         speed,
-    }
+    }))
 }
 
 #[test]
@@ -31,7 +31,7 @@ fn three_samples_settle(rt: HostRuntime) -> Result<(), Fail> {
         Call::Look(1),
         Call::Look(2),
     ];
-    let mut answers = [Answer::Done; 4];
+    let mut answers = [Ok(Reply::Done); 4];
     planned(&mut classes, &mut speeds, &calls, &mut answers)?;
     assert_eq!(rt; answers[0], advanced(Stage::Settled, 9, 2));
     assert_eq!(rt; answers[1], seen(Stage::Settled, 7, 0));
@@ -46,7 +46,7 @@ fn a_small_allowance_reaches_the_speeds(rt: HostRuntime) -> Result<(), Fail> {
     let mut classes: [Cell<Class>; 3] = [cell(7, 0)?; 3];
     let mut speeds = example()?;
     let calls = [Call::Advance(3), Call::Advance(0), Call::Advance(100)];
-    let mut answers = [Answer::Done; 3];
+    let mut answers = [Ok(Reply::Done); 3];
     planned(&mut classes, &mut speeds, &calls, &mut answers)?;
     assert_eq!(rt; answers[0], advanced(Stage::Working(Make::Speeds), 3, 0));
     assert_eq!(rt; answers[1], advanced(Stage::Working(Make::Speeds), 0, 0));
@@ -64,10 +64,10 @@ fn a_cut_behind_the_sweep_makes_one_more(rt: HostRuntime) -> Result<(), Fail> {
         Call::Cut(Make::Speeds, 0, 8),
         Call::Advance(100),
     ];
-    let mut answers = [Answer::Done; 3];
+    let mut answers = [Ok(Reply::Done); 3];
     planned(&mut classes, &mut speeds, &calls, &mut answers)?;
     assert_eq!(rt; answers[0], advanced(Stage::Working(Make::Speeds), 4, 0));
-    assert_eq!(rt; answers[1], Answer::Done);
+    assert_eq!(rt; answers[1], Ok(Reply::Done));
     assert_eq!(rt; answers[2], advanced(Stage::Settled, 5, 0));
     Ok(())
 }
@@ -83,7 +83,7 @@ fn an_impossible_pour_keeps_what_it_lowered(rt: HostRuntime) -> Result<(), Fail>
         Call::Look(1),
         Call::Look(2),
     ];
-    let mut answers = [Answer::Done; 4];
+    let mut answers = [Ok(Reply::Done); 4];
     planned(&mut classes, &mut speeds, &calls, &mut answers)?;
     assert_eq!(rt; answers[0], advanced(Stage::Impossible(1), 3, 0));
     assert_eq!(rt; answers[1], seen(Stage::Impossible(1), 1, 4096));
@@ -107,7 +107,7 @@ fn floors_above_caps_are_found_at_making(rt: HostRuntime) -> Result<(), Fail> {
 fn a_limit_below_a_floor_is_impossible(rt: HostRuntime) -> Result<(), Fail> {
     let mut classes: [Cell<Class>; 3] = [cell(7, 0)?; 3];
     let mut speeds = [cell(0, 0)?, cell(9, 2)?, cell(9, 0)?];
-    let mut answers = [Answer::Done];
+    let mut answers = [Ok(Reply::Done)];
     planned(
         &mut classes,
         &mut speeds,

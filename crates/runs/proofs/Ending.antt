@@ -1,17 +1,19 @@
 -- An advance with enough allowance ends the job.
-use Rattle.std.proofs.Common.{◌≡◌, ℕ, zero, suc, ◌≤◌, Bool, true, false, cond, ◌⊎◌, refl, ap, subst, inl, inr, ⊎_elim, suc-le-suc, zero-le, le_trans, le_refl, mul-le-mul_left, arith}
+use Rattle.std.proofs.Common.{◌≡◌, ℕ, zero, suc, ◌≤◌, Bool, true, false, cond, ◌⊎◌, Ok, refl, ap, subst, inl, inr, ⊎_elim, suc-le-suc, zero-le, le_trans, le_refl, mul-le-mul_left, arith}
 use Rattle.runs.specs.declared.stage.Make.{Make}
 use Rattle.runs.specs.declared.stage.Make.TheVariants.{Classes, Speeds}
 use Rattle.runs.specs.declared.stage.Stage.{Stage}
 use Rattle.runs.specs.declared.stage.Stage.TheVariants.{Working, Settled, Impossible}
 use Rattle.runs.specs.declared.stage.Sweep.{Sweep}
 use Rattle.runs.specs.declared.call.Call.TheVariants.{Advance}
-use Rattle.runs.specs.declared.call.Answer.TheVariants.{Advanced}
+use Rattle.runs.specs.declared.reply.Progress.{Progress}
+use Rattle.runs.specs.declared.reply.Reply.TheVariants.{Advanced}
+use Rattle.runs.specs.Answers.{Answer}
 use Rattle.runs.specs.Settings.{Setting, SettingLaw}
 use Rattle.runs.specs.Sheets.{Sheets}
 use Rattle.runs.specs.Jobs.{Job, job}
 use Rattle.runs.specs.Evaluations.{evaluated}
-use Rattle.runs.specs.Calls.{Course, advanced, acted, called, answered, replied}
+use Rattle.runs.specs.Calls.{Course, advanced, acted, progress, called, answered, replied}
 use Rattle.runs.specs.InForce.{Bounds}
 use Rattle.runs.specs.Keeping.{own}
 use Rattle.runs.specs.Law.{Ended, enough}
@@ -38,14 +40,11 @@ record Spent (k most : ℕ) (p : Course) : Type 0 where
   whole : (p.evaluations ≡ k) ⊎ Ended p.job.stage
   bounded : p.evaluations ≤ most
 
-told : (k most : ℕ) (p : Course) (e l : ℕ) (t : Stage) → Spent k most p → Advanced p.job.stage p.evaluations p.lowerings ≡ Advanced t e l
-    → (e ≤ k) × ((e ≡ k) ⊎ Ended t) × (e ≤ most)
-told k most p e l t s is =
-    let same : p.evaluations ≡ e = cc in
-    let stage : p.job.stage ≡ t = cc in
-    let h = s.within in
-    let h' = s.bounded in
-    (omega arith, ⊎_elim (λ x. inl (omega arith)) (λ x. inr (subst Ended stage x)) s.whole, omega arith)
+told : (k most : ℕ) (c : Course) (p : Progress) → Spent k most c → ◌≡◌ {A = Answer} (Ok (Advanced (progress c))) (Ok (Advanced p))
+    → (p.evaluations ≤ k) × ((p.evaluations ≡ k) ⊎ Ended p.stage) × (p.evaluations ≤ most)
+told k most c p s is =
+    let same : progress c ≡ p = cc in
+    subst (λ q. (q.evaluations ≤ k) × ((q.evaluations ≡ k) ⊎ Ended q.stage) × (q.evaluations ≤ most)) same (s.within, s.whole, s.bounded)
 
 module _ (σ : Setting) (law : SettingLaw σ) (b : Bounds) where
   advanced_ends : (k : ℕ) (t : Stage) (w : Sweep) (S : Sheets) → Standing σ b t w S → potential σ.samples t w (own S) ≤ k
@@ -89,9 +88,9 @@ module _ (σ : Setting) (law : SettingLaw σ) (b : Bounds) where
       let p = spent k t w S s in
       record { within = p.within; whole = p.whole; bounded = le_trans p.bounded (potential_enough σ t w S) }
 
-  pub advance_spends : (t₀ : Stage) (w : Sweep) (S : Sheets) → Standing σ b t₀ w S → (k e l : ℕ) (t : Stage) → answered σ (Advance k) (job t₀ w S) ≡ Advanced t e l
-      → (e ≤ k) × ((e ≡ k) ⊎ Ended t) × (e ≤ enough σ S)
+  pub advance_spends : (t : Stage) (w : Sweep) (S : Sheets) → Standing σ b t w S → (k : ℕ) (p : Progress) → answered σ (Advance k) (job t w S) ≡ Ok (Advanced p)
+      → (p.evaluations ≤ k) × ((p.evaluations ≡ k) ⊎ Ended p.stage) × (p.evaluations ≤ enough σ S)
   unfolding answered replied
-  advance_spends (Working m) w S s k e l t is = told k (enough σ S) (advanced σ k (job (Working m) w S)) e l t (spent_enough k (Working m) w S s) is
-  advance_spends Settled w S s k e l t is = told k (enough σ S) (advanced σ k (job Settled w S)) e l t (spent_enough k Settled w S s) is
-  advance_spends (Impossible i) w S s k e l t is = let z : ◌≡◌ {A = ℕ} 0 1 = cc in absurd (omega arith)
+  advance_spends (Working m) w S s k p is = told k (enough σ S) (advanced σ k (job (Working m) w S)) p (spent_enough k (Working m) w S s) is
+  advance_spends Settled w S s k p is = told k (enough σ S) (advanced σ k (job Settled w S)) p (spent_enough k Settled w S s) is
+  advance_spends (Impossible i) w S s k p is = let z : ◌≡◌ {A = ℕ} 0 1 = cc in absurd (omega arith)

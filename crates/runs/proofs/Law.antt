@@ -10,7 +10,7 @@ runs_lawful σ law s start cs = record {
   settled = run_settled σ law s start cs;
   impossible = run_impossible σ law s start cs;
   ends = run_ends σ law s start cs;
-  spends = λ before k e l t last. run_spends σ law s start before k e l t;
+  spends = λ before k p last. run_spends σ law s start before k p;
   shows = look_shows σ (after σ s cs);
   alike = λ s' start' cs'. runs_alike σ law s s' start start' cs cs';
 }

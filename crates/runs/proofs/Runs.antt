@@ -1,5 +1,5 @@
 -- What holds after a sequence of calls, from the invariant.
-use Rattle.std.proofs.Common.{◌≡◌, ℕ, ◌<◌, ◌≤◌, ◌⊎◌, List, [], ◌∷◌, ◌++◌, sym, refl, ◌∙◌, subst, arith}
+use Rattle.std.proofs.Common.{◌≡◌, ℕ, ◌<◌, ◌≤◌, ◌⊎◌, List, [], ◌∷◌, ◌++◌, Ok, sym, refl, ◌∙◌, subst, arith}
 use Rattle.runs.specs.declared.stage.Make.{Make}
 use Rattle.runs.specs.declared.stage.Make.TheVariants.{Classes, Speeds}
 use Rattle.runs.specs.declared.stage.Stage.{Stage}
@@ -7,7 +7,8 @@ use Rattle.runs.specs.declared.stage.Stage.TheVariants.{Settled, Impossible}
 use Rattle.runs.specs.declared.stage.Sweep.{Sweep}
 use Rattle.runs.specs.declared.call.Call.{Call}
 use Rattle.runs.specs.declared.call.Call.TheVariants.{Advance}
-use Rattle.runs.specs.declared.call.Answer.TheVariants.{Advanced}
+use Rattle.runs.specs.declared.reply.Progress.{Progress}
+use Rattle.runs.specs.declared.reply.Reply.TheVariants.{Advanced}
 use Rattle.limit.specs.Numbers.{KeptAt}
 use Rattle.runs.specs.Settings.{Setting, SettingLaw}
 use Rattle.runs.specs.Sheets.{Sheets, sheet}
@@ -67,8 +68,8 @@ module _ (σ : Setting) (law : SettingLaw σ) (s : Start) (start : StartLaw σ s
       subst (λ l. Ended (after σ s l).stage) (sym last)
       (subst (λ x. Ended x.stage) (sym (run_more σ before (Advance k) (made σ s))) (advance_ends σ law (in_force σ s before) k j.stage j.sweep j.sheets (stands before) h))
 
-  pub run_spends : (before : List Call) (k e l : ℕ) (t : Stage) → answered σ (Advance k) (after σ s before) ≡ Advanced t e l
-      → (e ≤ k) × ((e ≡ k) ⊎ Ended t) × (e ≤ enough σ (after σ s before).sheets)
-  run_spends before k e l t =
+  pub run_spends : (before : List Call) (k : ℕ) (p : Progress) → answered σ (Advance k) (after σ s before) ≡ Ok (Advanced p)
+      → (p.evaluations ≤ k) × ((p.evaluations ≡ k) ⊎ Ended p.stage) × (p.evaluations ≤ enough σ (after σ s before).sheets)
+  run_spends before k p =
       let j : Job = after σ s before in
-      advance_spends σ law (in_force σ s before) j.stage j.sweep j.sheets (stands before) k e l t
+      advance_spends σ law (in_force σ s before) j.stage j.sweep j.sheets (stands before) k p

@@ -1,7 +1,9 @@
 -- The invariant: how the sheets and the stage of a job stand to the bounds in force.
-use Rattle.std.proofs.Common.{◌≡◌, ℕ, ◌+◌, ◌<◌, ◌≤◌, Bool, true, false, length}
+use Rattle.std.proofs.Common.{◌≡◌, ℕ, ◌+◌, ◌<◌, ◌≤◌, true, false, length}
 use Rattle.std.proofs.lemmas.Bool.{false≢true}
 use Rattle.grade.specs.declared.cell.Cell.{Cell}
+use Rattle.runs.specs.declared.stage.Direction.{Direction}
+use Rattle.runs.specs.declared.stage.Direction.TheVariants.{Rising, Falling}
 use Rattle.runs.specs.declared.stage.Make.{Make}
 use Rattle.runs.specs.declared.stage.Make.TheVariants.{Classes, Speeds}
 use Rattle.runs.specs.declared.stage.Stage.{Stage}
@@ -46,14 +48,14 @@ Ready σ Classes P = Unit {0}
 Ready σ Speeds P = Limited σ Classes P × Tabled σ P
 
 -- the samples that a sweep has visited: from the first on if it rises, from the last down if not
-abbrev pub Visited : ℕ → Bool → ℕ → ℕ → Type 0
-Visited n true v i = i < v
-Visited n false v i = n ≤ i + v
+abbrev pub Visited : ℕ → Direction → ℕ → ℕ → Type 0
+Visited n Rising v i = i < v
+Visited n Falling v i = n ≤ i + v
 
 -- in an unmarked sweep each sample visited keeps the limit
 abbrev pub Swept : Setting → Make → Sweep → Pair → Type 0
 Swept σ m w P =
-    w.marked ≡ false → (i : ℕ) → i < σ.samples → Visited σ.samples w.rising w.visited i → KeptAt (σ.number m) (P m) i
+    w.marked ≡ false → (i : ℕ) → i < σ.samples → Visited σ.samples w.direction w.visited i → KeptAt (σ.number m) (P m) i
 
 -- how far the work on a job's own pair has come
 abbrev pub Reached : Setting → Stage → Sweep → Pair → Type 0

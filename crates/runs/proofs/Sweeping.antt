@@ -3,6 +3,7 @@ use Rattle.std.proofs.Common.{◌≡◌, ℕ, zero, suc, ◌+◌, ◌<◌, ◌�
 use borrow.Author.Differences.{ints}
 use Rattle.std.proofs.lemmas.Bool.{cond_both, ltb-true, ltb-false}
 use Rattle.grade.specs.declared.cell.Cell.{Cell}
+use Rattle.runs.specs.declared.stage.Direction.TheVariants.{Rising}
 use Rattle.runs.specs.declared.stage.Make.{Make}
 use Rattle.runs.specs.declared.stage.Make.TheVariants.{Classes, Speeds}
 use Rattle.runs.specs.declared.stage.Stage.TheVariants.{Working, Impossible}
@@ -34,7 +35,7 @@ module _ (σ : Setting) (law : SettingLaw σ) (b : Bounds) where
       → Stands σ b (poured σ.table k i S)
   unfolding poured
   poured_stands zero i S e f lim tab =
-      (f, ((lim, λ x h. simp rank_values (tab x (omega arith))), law.sampled, begun_swept σ Speeds true (own S)))
+      (f, ((lim, λ x h. simp rank_values (tab x (omega arith))), law.sampled, begun_swept σ Speeds Rising (own S)))
   poured_stands (suc k) i S e f lim tab =
       cond_both (ltb entry c.floor) (job (Impossible i) fresh S) (poured σ.table k (suc i) S') (Stands σ b) stops
       (λ t. poured_stands k (suc i) S' (omega arith) (fits t) lim tabled)
@@ -71,7 +72,7 @@ module _ (σ : Setting) (law : SettingLaw σ) (b : Bounds) where
           (λ _. omega arith) (λ y ne l. tab y (omega arith)) x
 
   finished_stands : (m : Make) (S : Sheets) → Fitting σ b S → Ready σ m (own S) → Limited σ m (own S) → Stands σ b (finished σ m S)
-  finished_stands Classes S f ready lim = poured_stands σ.samples 0 S (omega arith) f lim (λ x h. absurd (visited_none 1 true x (omega arith) h))
+  finished_stands Classes S f ready lim = poured_stands σ.samples 0 S (omega arith) f lim (λ x h. absurd (visited_none 1 Rising x (omega arith) h))
   finished_stands Speeds S f ready lim = (f, (ready, lim))
 
   continued_stands : (m : Make) (w : Sweep) (S : Sheets) → Fitting σ b S → Ready σ m (own S) → Swept σ m w (own S) → Stands σ b (continued σ m w S)
@@ -80,8 +81,8 @@ module _ (σ : Setting) (law : SettingLaw σ) (b : Bounds) where
       cond_both (ltb w.visited σ.samples) (job (Working m) w S) (cond w.marked (job (Working m) (turned w) S) (finished σ m S)) (Stands σ b)
       (λ e. (f, (ready, ltb-true w.visited σ.samples e, swept)))
       (λ e. cond_both w.marked (job (Working m) (turned w) S) (finished σ m S) (Stands σ b)
-      (λ _. (f, (ready, law.sampled, begun_swept σ m (turned w).rising (own S))))
-      (λ t. finished_stands m S f ready (λ x h. swept t x h (visited_all σ.samples w.rising w.visited (ltb-false w.visited σ.samples e) x h))))
+      (λ _. (f, (ready, law.sampled, begun_swept σ m (turned w).direction (own S))))
+      (λ t. finished_stands m S f ready (λ x h. swept t x h (visited_all σ.samples w.direction w.visited (ltb-false w.visited σ.samples e) x h))))
 
   pub evaluated_stands : (m : Make) (w : Sweep) (S : Sheets) → Standing σ b (Working m) w S → Stands σ b (evaluated σ m w S)
   unfolding evaluated finding followed
@@ -98,7 +99,7 @@ module _ (σ : Setting) (law : SettingLaw σ) (b : Bounds) where
       z = σ.number m (values (sheet S m)) i
 
       h : i < σ.samples
-      h = upcoming_below σ.samples w.rising w.visited below
+      h = upcoming_below σ.samples w.direction w.visited below
 
       clash : z <ℤ pos c.floor → Hopeless σ b
       clash l P k =
@@ -119,4 +120,4 @@ module _ (σ : Setting) (law : SettingLaw σ) (b : Bounds) where
       keep l =
           continued_stands m (onward w) S f ready
           (λ t x hx seen. ⊎_elim (λ before. swept t x hx before) (λ e. subst (KeptAt (σ.number m) (values (sheet S m))) (sym e) (rw rank_values l))
-          (visited_more σ.samples w.rising w.visited below x seen))
+          (visited_more σ.samples w.direction w.visited below x seen))

@@ -1,17 +1,20 @@
 -- Each call on a job: the questions that it is asked first, what it does where none refuses it, and its answer.
-use Rattle.std.specs.Prelude.{ℕ, zero, suc, ◌+◌, min, max, Bool, true, false, cond, nat_le, nat_lt}
+use Rattle.std.specs.Prelude.{ℕ, zero, suc, ◌+◌, min, max, Bool, true, false, cond, Ok, Err, Result, nat_le, nat_lt}
 use Rattle.runs.specs.declared.call.Call.{Call}
 use Rattle.runs.specs.declared.call.Call.TheVariants.{Advance, Cut, Lift, Look}
-use Rattle.runs.specs.declared.call.Answer.{Answer}
-use Rattle.runs.specs.declared.call.Answer.TheVariants.{Refused, Advanced, Done, Seen}
 use Rattle.runs.specs.declared.call.Fault.{Fault}
 use Rattle.runs.specs.declared.call.Fault.TheVariants.{NoSample, AboveTop, JobImpossible}
+use Rattle.runs.specs.declared.reply.Progress.{Progress}
+use Rattle.runs.specs.declared.reply.Reply.{Reply}
+use Rattle.runs.specs.declared.reply.Reply.TheVariants.{Advanced, Done, Seen}
+use Rattle.runs.specs.declared.reply.Sight.{Sight}
 use Rattle.grade.specs.declared.cell.Cell.{Cell}
 use Rattle.runs.specs.declared.stage.Make.{Make}
 use Rattle.runs.specs.declared.stage.Make.TheVariants.{Classes, Speeds}
 use Rattle.runs.specs.declared.stage.Stage.{Stage}
 use Rattle.runs.specs.declared.stage.Stage.TheVariants.{Working, Settled, Impossible}
 use Rattle.runs.specs.declared.stage.Sweep.{Sweep}
+use Rattle.runs.specs.Answers.{Answer}
 use Rattle.runs.specs.Settings.{Setting}
 use Rattle.runs.specs.Sheets.{Sheets, cell, sheet, put, with_value, with_cap, with_floor}
 use Rattle.runs.specs.Jobs.{fresh, marking, upcoming, Job, job}
@@ -19,9 +22,15 @@ use Rattle.runs.specs.Evaluations.{evaluated, finding, lowering}
 
 -- ---- questions: asked in order, until one is answered no
 
-pub data Verdict : Type 0 where
-  granted : Verdict
-  refused : Fault → Verdict
+-- what the questions come to: a yes to each, or the fault of the first no
+abbrev pub Verdict : Type 0
+Verdict = Result (Unit {0}) Fault
+
+abbrev pub granted : Verdict
+granted = Ok tt
+
+abbrev pub refused : Fault → Verdict
+refused f = Err f
 
 -- a question, the fault that a no means, and the questions after it
 abbrev pub ask : Bool → Fault → Verdict → Verdict
@@ -110,17 +119,25 @@ acted σ (Cut m i v) j = cut m i v j
 acted σ (Lift m i v) j = lifted m i v j
 acted σ (Look i) j = j
 
--- and its answer
-unfoldable pub replied : Setting → Call → Job → Answer
-replied σ (Advance k) j = let p : Course = advanced σ k j in Advanced p.job.stage p.evaluations p.lowerings
+-- how far an advance came
+abbrev pub progress : Course → Progress
+progress p = record { stage = p.job.stage; evaluations = p.evaluations; lowerings = p.lowerings }
+
+-- what a look shows of a sample
+abbrev pub sight : Job → (sample : ℕ) → Sight
+sight j i = record { stage = j.stage; class = (cell j.sheets.classes i).value; speed = (cell j.sheets.speeds i).value }
+
+-- and its reply
+unfoldable pub replied : Setting → Call → Job → Reply
+replied σ (Advance k) j = Advanced (progress (advanced σ k j))
 replied σ (Cut m i v) j = Done
 replied σ (Lift m i v) j = Done
-replied σ (Look i) j = Seen j.stage (cell j.sheets.classes i).value (cell j.sheets.speeds i).value
+replied σ (Look i) j = Seen (sight j i)
 
 -- the job after a call: a refused one leaves it as it is
 unfoldable pub called : Setting → Call → Job → Job
-called σ c j = elim (verdict σ c j.stage) [ granted ↦ acted σ c j | refused f ↦ j ]
+called σ c j = elim (verdict σ c j.stage) [ Ok _ ↦ acted σ c j | Err f ↦ j ]
 
 -- the answer to a call
 unfoldable pub answered : Setting → Call → Job → Answer
-answered σ c j = elim (verdict σ c j.stage) [ granted ↦ replied σ c j | refused f ↦ Refused f ]
+answered σ c j = elim (verdict σ c j.stage) [ Ok _ ↦ Ok (replied σ c j) | Err f ↦ Err f ]

@@ -1,12 +1,13 @@
 -- The law of the job: what is true after every sequence of calls, said of the start and the calls alone.
-use Rattle.std.specs.Prelude.{◌≡◌, ℕ, ◌+◌, ◌*◌, ◌<◌, ◌≤◌, ◌⊎◌, List, [], ◌∷◌, ◌++◌, sum, ◌≢◌}
+use Rattle.std.specs.Prelude.{◌≡◌, ℕ, ◌+◌, ◌*◌, ◌<◌, ◌≤◌, ◌⊎◌, List, [], ◌∷◌, ◌++◌, sum, ◌≢◌, Ok}
 use Rattle.runs.specs.declared.stage.Make.{Make}
 use Rattle.runs.specs.declared.stage.Make.TheVariants.{Classes, Speeds}
 use Rattle.runs.specs.declared.stage.Stage.{Stage}
 use Rattle.runs.specs.declared.stage.Stage.TheVariants.{Settled, Impossible}
 use Rattle.runs.specs.declared.call.Call.{Call}
 use Rattle.runs.specs.declared.call.Call.TheVariants.{Advance, Look}
-use Rattle.runs.specs.declared.call.Answer.TheVariants.{Advanced, Seen}
+use Rattle.runs.specs.declared.reply.Progress.{Progress}
+use Rattle.runs.specs.declared.reply.Reply.TheVariants.{Advanced, Seen}
 use Rattle.grade.specs.Profiles.{rank}
 use Rattle.runs.specs.Settings.{Setting, SettingLaw}
 use Rattle.runs.specs.Sheets.{Sheets}
@@ -43,10 +44,11 @@ pub record RunLaw (σ : Setting) (s : Start) (cs : List Call) (j : Job) : Type 0
   -- a last advance whose allowance was enough, by the sums where it began, has ended the work
   pub ends : (before : List Call) (k : ℕ) → cs ≡ before ++ (Advance k ∷ []) → enough σ (after σ s before).sheets ≤ k → Ended j.stage
   -- a last advance that was done used its whole allowance or ended the work, and used no more than enough
-  pub spends : (before : List Call) (k e l : ℕ) (t : Stage) → cs ≡ before ++ (Advance k ∷ [])
-      → answered σ (Advance k) (after σ s before) ≡ Advanced t e l → (e ≤ k) × ((e ≡ k) ⊎ Ended t) × (e ≤ enough σ (after σ s before).sheets)
+  pub spends : (before : List Call) (k : ℕ) (p : Progress) → cs ≡ before ++ (Advance k ∷ []) → answered σ (Advance k) (after σ s before) ≡ Ok (Advanced p)
+      → (p.evaluations ≤ k) × ((p.evaluations ≡ k) ⊎ Ended p.stage) × (p.evaluations ≤ enough σ (after σ s before).sheets)
   -- a look at a sample shows the stage and the job's own pair there
-  pub shows : (i : ℕ) → i < σ.samples → answered σ (Look i) j ≡ Seen j.stage (rank (own j.sheets Classes) i) (rank (own j.sheets Speeds) i)
+  pub shows : (i : ℕ) → i < σ.samples
+      → answered σ (Look i) j ≡ Ok (Seen (record { stage = j.stage; class = rank (own j.sheets Classes) i; speed = rank (own j.sheets Speeds) i }))
   -- whatever start and calls put the same in force, they do not end apart from these
   pub alike : (s' : Start) → StartLaw σ s' → (cs' : List Call) → SameBounds σ (in_force σ s cs) (in_force σ s' cs') → AlikeLaw j (after σ s' cs')
 

@@ -1,5 +1,6 @@
 pub mod Counts
 pub mod Faults
+pub mod Answers
 pub mod Settings
 pub mod Sheets
 pub mod Jobs

@@ -1,11 +1,11 @@
 -- Sequences of calls, each made on the job as the one before left it.
-use Rattle.std.specs.Prelude.{List, [], ◌∷◌}
+use Rattle.std.specs.Prelude.{List, [], ◌∷◌, Ok, Err}
 use Rattle.runs.specs.declared.call.Call.{Call}
-use Rattle.runs.specs.declared.call.Answer.{Answer}
+use Rattle.runs.specs.Answers.{Answer}
 use Rattle.runs.specs.Settings.{Setting}
 use Rattle.runs.specs.Jobs.{Job}
 use Rattle.runs.specs.Making.{Start, made}
-use Rattle.runs.specs.Calls.{granted, refused, verdict, called, answered}
+use Rattle.runs.specs.Calls.{verdict, called, answered}
 
 -- the job after a sequence of calls
 unfoldable pub run : Setting → List Call → Job → Job
@@ -22,7 +22,7 @@ unfoldable pub done : Setting → List Call → Job → List Call
 done σ [] j = []
 done σ (c ∷ cs) j =
     let rest : List Call = done σ cs (called σ c j) in
-    elim (verdict σ c j.stage) [ granted ↦ c ∷ rest | refused k ↦ rest ]
+    elim (verdict σ c j.stage) [ Ok _ ↦ c ∷ rest | Err f ↦ rest ]
 
 -- the job after a sequence of calls on one newly made
 abbrev pub after : Setting → Start → List Call → Job

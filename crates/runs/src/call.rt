@@ -1,11 +1,11 @@
-// The calls on a job and what they answer.
+// The calls on a job, and why one is refused.
 ghost use Rattle.std.specs.Prelude.{◌≡◌};
 ghost use Rattle.runs.specs.Faults.{question_of};
 
-use super::stage::{Make, Stage};
+use super::stage::Make;
 
 // A call with its numbers, each any that 64 bits hold.
-#[derive(Clone, Copy)]
+#[derive(Clone, Copy, Debug, PartialEq, Eq)]
 pub enum Call {
     // At most so many evaluations.
     Advance(u64),
@@ -18,7 +18,7 @@ pub enum Call {
 }
 
 // Why a call is refused: the first question that is answered no.
-#[derive(Clone, Copy, PartialEq, Eq, Debug)]
+#[derive(Clone, Copy, Debug, PartialEq, Eq)]
 pub enum Fault {
     BadCount,
     NoClassMemory,
@@ -41,23 +41,4 @@ impl Fault {
             Fault::JobImpossible => 62,
         }
     }
-}
-
-#[derive(Clone, Copy, PartialEq, Eq, Debug)]
-pub enum Answer {
-    Refused(Fault),
-    // Where an advance came, in how many evaluations, and how many of them lowered a value.
-    Advanced {
-        stage: Stage,
-        evaluations: u64,
-        lowerings: u64,
-    },
-    // A cut or a lift was done.
-    Done,
-    // What a look saw.
-    Seen {
-        stage: Stage,
-        class: u32,
-        speed: u32,
-    },
 }

@@ -1,5 +1,5 @@
 // What an evaluation finds at a sample.
-#[derive(Clone, Copy)]
+#[derive(Clone, Copy, Debug, PartialEq, Eq)]
 pub enum Finding {
     // The limit allows the value.
     Keeps,

@@ -4,10 +4,12 @@
 mod call;
 mod counting;
 mod finding;
+mod reply;
 mod samples;
 mod stage;
 
-pub use call::{Answer, Call, Fault};
+pub use call::{Call, Fault};
 pub use finding::Finding;
+pub use reply::{Answer, Progress, Reply, Sight};
 pub use samples::Samples;
-pub use stage::{Make, Stage, Sweep};
+pub use stage::{Direction, Make, Stage, Sweep};

@@ -1,7 +1,7 @@
 // A count of samples: 2 at least, so that there is a gap, and 4096 at most.
 ghost use Rattle.std.specs.Prelude.{◌≤◌};
 
-#[derive(Clone, Copy)]
+#[derive(Clone, Copy, Debug, PartialEq, Eq)]
 pub struct Samples {
     pub count: usize,
     ghost least: { 2 ≤ count },

@@ -1,13 +1,13 @@
 // Where a job is in its work.
 
 // The two makes of grade, a sheet for each.
-#[derive(Clone, Copy, PartialEq, Eq, Debug)]
+#[derive(Clone, Copy, Debug, PartialEq, Eq)]
 pub enum Make {
     Classes,
     Speeds,
 }
 
-#[derive(Clone, Copy, PartialEq, Eq, Debug)]
+#[derive(Clone, Copy, Debug, PartialEq, Eq)]
 pub enum Stage {
     // Sweeps go over the sheet of this make.
     Working(Make),
@@ -17,11 +17,19 @@ pub enum Stage {
     Impossible(usize),
 }
 
+// Which way a sweep goes.
+#[derive(Clone, Copy, Debug, PartialEq, Eq)]
+pub enum Direction {
+    // From the first sample to the last.
+    Rising,
+    // From the last to the first.
+    Falling,
+}
+
 // A pass over a sheet, sample by sample, each visited once.
-#[derive(Clone, Copy)]
+#[derive(Clone, Copy, Debug, PartialEq, Eq)]
 pub struct Sweep {
-    // From the first sample to the last, or back.
-    pub rising: bool,
+    pub direction: Direction,
     // How many samples it has visited.
     pub visited: usize,
     // A value fell since it began, so another sweep has to follow.

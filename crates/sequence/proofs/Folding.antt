@@ -1,10 +1,10 @@
 -- A sequence of calls, one more at a time.
-use Rattle.std.proofs.Common.{◌≡◌, ℕ, suc, ◌+◌, ◌<◌, min, List, [], ◌∷◌, ◌++◌, length, get_or, take, drop, set, Ok, Err, Result, sym, refl, ap, ◌∙◌, subst, ⊎_elim, append_assoc, add-one, arith, drop-cons}
-use Rattle.std.proofs.lemmas.List.{set_at, take_all, length-take}
+use Rattle.std.proofs.Common.{◌≡◌, ℕ, suc, ◌+◌, ◌<◌, min, List, [], ◌∷◌, ◌++◌, length, get_or, take, drop, set, Ok, Err, Result, IsErrAnd, sym, refl, ap, ◌∙◌, subst, ⊎_elim, append_assoc, add-one, arith, drop-cons}
+use Rattle.std.proofs.lemmas.List.{set_at, take_all}
 use Rattle.std.proofs.lemmas.Bool.{cases_lt}
 use Rattle.grade.specs.Tops.{class_top, speed_top}
 use Rattle.limit.specs.Numbers.{Number, LimitLaw}
-use Rattle.runs.specs.declared.call.Answer.{Answer}
+use Rattle.runs.specs.Answers.{Answer}
 use Rattle.runs.specs.declared.call.Call.{Call}
 use Rattle.runs.specs.declared.call.Fault.{Fault}
 use Rattle.runs.specs.Settings.{Setting}
@@ -64,38 +64,35 @@ module _ (a b : Number) (h i k : Held) (cs : List Call) (c : Call) (x : Answer)
   answer_more =
       does.answer ∙ reply_in_room a b c i room_here ∙ ap (λ s. answered (setting s.count a b) c (whole_of i)) so_far.samples ∙ ap (answered σ c) so_far.job
 
--- all that have a place
-take-placed : {X : Type 0} (xs : List X) (m n : ℕ) → m ≡ min (length xs) n → take m xs ≡ take n xs
-take-placed xs m n e =
-    ⊎_elim (λ l. let all : m ≡ length xs = omega arith in take_all m xs (omega arith) ∙ sym (take_all n xs (omega arith)))
-    (λ l. let all : m ≡ n = omega arith in ap (λ k. take k xs) all) (cases_lt (length xs) n)
+-- the code's choice of those that have a place
+pub placed_are : (calls : List Call) (old : List Answer) (m : ℕ) → m ≡ min (length calls) (length old) → take m calls ≡ placed calls old
+placed_are calls old m e =
+    ⊎_elim (λ l. let all : m ≡ length calls = omega arith in take_all m calls (omega arith) ∙ sym (take_all (length old) calls (omega arith)))
+    (λ l. let all : m ≡ length old = omega arith in ap (λ k. take k calls) all) (cases_lt (length calls) (length old))
 
--- the end: of the calls, m are made, all for which there is a place
-module _ (a b : Number) (h j : Held) (calls : List Call) (old new : List Answer) where
-  abbrev σ-run : Setting
-  σ-run = setting_of a b h
-
-  pub runs_all : (m : ℕ) → m ≡ min (length calls) (length old) → room h ≡ granted → Holds (run σ-run (take m calls) (whole_of h)) h j → new ≡ answers σ-run (take m calls) (whole_of h) ++ drop m old
-      → Runs a b (placed calls old) h j old new (Ok m)
-  runs_all m all roomy holds new_is =
-      let these : take m calls ≡ placed calls old = take-placed calls m (length old) all in
-      let many : m ≡ length (placed calls old) = omega (arith, length-take (length old) calls) in
-      record {
-        returned = ap Ok many ∙ ap (λ v. judged v (Ok (length (placed calls old))) Err) (sym roomy);
-        holds = subst (λ w. Holds w h j) (ap (λ l. run σ-run l (whole_of h)) these ∙ ap (λ v. judged v (run σ-run (placed calls old) (whole_of h)) (λ _. whole_of h)) (sym roomy)) holds;
-        answered = new_is ∙ ap (λ l. answers σ-run l (whole_of h) ++ drop m old) these ∙ ap (λ k. answers σ-run (placed calls old) (whole_of h) ++ drop k old) many
-            ∙ ap (λ v. judged v (answers σ-run (placed calls old) (whole_of h) ++ drop (length (placed calls old)) old) (λ _. old)) (sym roomy);
-        unchanged = λ f e. let z : ◌≡◌ {A = ℕ} 0 1 = cc in absurd (omega arith);
-      }
+-- all these calls are made
+pub runs_all : (a b : Number) (h j : Held) (calls : List Call) (old new : List Answer) → room h ≡ granted → Holds (run (setting_of a b h) calls (whole_of h)) h j
+    → new ≡ answers (setting_of a b h) calls (whole_of h) ++ drop (length calls) old → Runs a b calls h j old new (Ok (length calls))
+runs_all a b h j calls old new roomy holds new_is = record {
+  returned = ap (λ v. judged v (Ok (length calls)) Err) (sym roomy);
+  holds = subst (λ w. Holds w h j) (ap (λ v. judged v (run (setting_of a b h) calls (whole_of h)) (λ _. whole_of h)) (sym roomy)) holds;
+  answered = new_is ∙ ap (λ v. judged v (answers (setting_of a b h) calls (whole_of h) ++ drop (length calls) old) (λ _. old)) (sym roomy);
+  unchanged = λ f e. let z : ◌≡◌ {A = ℕ} 0 1 = cc in absurd (omega arith);
+}
 
 -- no room, and nothing is done
-pub runs_none : (a b : Number) (h : Held) (calls : List Call) (old : List Answer) (f : Fault) → refused f ≡ room h → Runs a b calls h h old old (Err f)
+runs_none : (a b : Number) (h : Held) (calls : List Call) (old : List Answer) (f : Fault) → refused f ≡ room h → Runs a b calls h h old old (Err f)
 runs_none a b h calls old f e = record {
   returned = ap (λ v. judged v (Ok (length calls)) Err) e;
   holds = staying (judged (room h) (run (setting_of a b h) calls (whole_of h)) (λ _. whole_of h)) h (ap (λ v. judged v (run (setting_of a b h) calls (whole_of h)) (λ _. whole_of h)) e);
   answered = ap (λ v. judged v (answers (setting_of a b h) calls (whole_of h) ++ drop (length calls) old) (λ _. old)) e;
   unchanged = λ _ _. refl;
 }
+
+-- so that a method that asks first returns r
+pub runs_refused : (a b : Number) (h : Held) (calls : List Call) (old : List Answer) (r : Result ℕ Fault) (f : Fault) → IsErrAnd r (λ e. e ≡ f) → refused f ≡ room h → Runs a b calls h h old old r
+runs_refused a b h calls old (Ok _) f is no_is = absurd is
+runs_refused a b h calls old (Err e) f is no_is = runs_none a b h calls old e (ap refused is ∙ no_is)
 
 -- the law over the calls of a run
 pub lawful_run : (a b : Number) → LimitLaw class_top a → LimitLaw speed_top b → (calls : List Call) (h h' : Held) (old new : List Answer) (r : Result ℕ Fault)

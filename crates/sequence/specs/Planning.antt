@@ -4,7 +4,7 @@ use Rattle.grade.specs.declared.cell.Cell.{Cell}
 use Rattle.grade.specs.declared.class.Class.{Class}
 use Rattle.grade.specs.declared.speed.Speed.{Speed}
 use Rattle.limit.specs.Numbers.{Number}
-use Rattle.runs.specs.declared.call.Answer.{Answer}
+use Rattle.runs.specs.Answers.{Answer}
 use Rattle.runs.specs.declared.call.Call.{Call}
 use Rattle.runs.specs.declared.call.Fault.{Fault}
 use Rattle.runs.specs.declared.samples.Samples.{Samples}

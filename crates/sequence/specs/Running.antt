@@ -1,7 +1,7 @@
 -- What a sequence of calls promises of the job, the memory beside it and the answers.
 use Rattle.std.specs.Prelude.{◌≡◌, ℕ, List, ◌++◌, length, take, drop, Ok, Err, Result}
 use Rattle.limit.specs.Numbers.{Number}
-use Rattle.runs.specs.declared.call.Answer.{Answer}
+use Rattle.runs.specs.Answers.{Answer}
 use Rattle.runs.specs.declared.call.Call.{Call}
 use Rattle.runs.specs.declared.call.Fault.{Fault}
 use Rattle.runs.specs.Runs.{run, answers}

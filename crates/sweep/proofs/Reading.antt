@@ -1,27 +1,21 @@
 -- A cell that the code reads and writes, as ranks.
-use Rattle.std.proofs.Common.{◌≡◌, ℕ, ◌<◌, ◌≤◌, List, length, get_or, take, set, ℤ, pos, negsuc, sym, ap, ◌∙◌, arith}
-use Rattle.std.proofs.lemmas.List.{get_or-map, map-set, get_or-take, length-take-le}
-use Rattle.std.proofs.lemmas.Bool.Decides.{nat_tests}
+use Rattle.std.proofs.Common.{◌≡◌, ℕ, ◌<◌, ◌≤◌, List, length, get_or, take, set, ℤ, sym, refl, ap, ◌∙◌}
+use Rattle.std.proofs.lemmas.List.{get_or-map, map-set, get_or-take, length-take-le, set-get_or}
 use Rattle.grade.specs.declared.cell.Cell.{Cell}
 use Rattle.grade.specs.Ranks.{ranked, ranked_all, ranks}
 use Rattle.grade.proofs.Ranking.{values_ranked}
-use Rattle.runs.specs.declared.finding.Finding.TheVariants.{Keeps, Lowers, Clashes}
 use Rattle.limit.specs.Numbers.{Number}
-use Rattle.runs.specs.Sheets.{blank, cell, values, with_value}
+use Rattle.runs.specs.declared.finding.Finding.{Finding}
+use Rattle.runs.specs.declared.finding.Finding.TheVariants.{Keeps, Lowers, Clashes}
+use Rattle.runs.specs.Sheets.{Sheet, blank, cell, with_value}
 use Rattle.runs.specs.Evaluations.{found}
+use Rattle.sweep.specs.Visits.{fallen, lowered, Visited}
 
--- what is found where the limit gives the rank r
-found_below : (c : Cell ℕ) (r : ℕ) → r < c.floor → Clashes ≡ found c (pos r)
-unfolding found
-found_below c r h = grind (arith, nat_tests)
-
-found_between : (c : Cell ℕ) (r : ℕ) → c.floor ≤ r → r < c.value → Lowers r ≡ found c (pos r)
-unfolding found
-found_between c r h k = grind (arith, nat_tests)
-
-found_above : (c : Cell ℕ) (r : ℕ) → c.floor ≤ r → c.value ≤ r → Keeps ≡ found c (pos r)
-unfolding found
-found_above c r h k = grind (arith, nat_tests)
+-- a cell that fell, in its place
+lowered_is : (f : Finding) (i : ℕ) (s : Sheet) → set s i (fallen f (cell s i)) ≡ lowered f i s
+lowered_is Keeps i s = set-get_or s i blank
+lowered_is (Lowers r) i s = refl
+lowered_is Clashes i s = set-get_or s i blank
 
 module _ {G : Type 0} (rank : G → ℕ) (cells : List (Cell G)) (i : ℕ) where
   pub cell_ranked : (d : Cell G) → i < length cells → cell (ranked_all rank cells) i ≡ ranked rank (get_or cells i d)
@@ -45,34 +39,15 @@ module _ {G : Type 0} (rank : G → ℕ) (cells : List (Cell G)) (i : ℕ) where
   pub set_ranked : (y : Cell G) (c : Cell ℕ) → ranked rank y ≡ c → ranked_all rank (set cells i y) ≡ set (ranked_all rank cells) i c
   set_ranked y c e = map-set (ranked rank) cells i y ∙ ap (set (ranked_all rank cells) i) e
 
-  -- a cell that was read, changed and written
-  pub set_read : (x y : Cell G) (f : Cell ℕ → Cell ℕ) → x ≡ get_or cells i x → i < length cells → ranked rank y ≡ f (ranked rank x)
+  -- a cell that was changed in its place, as f changes its ranks
+  pub changed : (d y : Cell G) (f : Cell ℕ → Cell ℕ) → i < length cells → ranked rank y ≡ f (ranked rank (get_or cells i d))
       → ranked_all rank (set cells i y) ≡ set (ranked_all rank cells) i (f (cell (ranked_all rank cells) i))
-  set_read x y f read h e = set_ranked y (f (cell (ranked_all rank cells) i)) (e ∙ ap f (sym (cell_read x read h)))
+  changed d y f h e = set_ranked y (f (cell (ranked_all rank cells) i)) (e ∙ ap f (sym (cell_ranked d h)))
 
-  module _ (number : Number) where
-    abbrev here : ℤ
-    here = number (values (ranked_all rank cells)) i
-
-    at_values : (z : ℤ) → z ≡ number (ranks rank cells) i → z ≡ here
-    at_values z e = e ∙ ap (λ p. number p i) (sym (values_ranked rank cells))
-
-    -- nothing fits
-    pub finds_none : negsuc 0 ≡ number (ranks rank cells) i → Clashes ≡ found (cell (ranked_all rank cells) i) here
-    unfolding found
-    finds_none e = ap (found (cell (ranked_all rank cells) i)) (at_values (negsuc 0) e)
-
-    -- x is the cell that the code read, r the rank that the limit gave
-    module _ (x : Cell G) (read : x ≡ get_or cells i x) (h : i < length cells) (r : ℕ) (gave : pos r ≡ number (ranks rank cells) i) where
-      here_found : found (ranked rank x) (pos r) ≡ found (cell (ranked_all rank cells) i) here
-      here_found =
-          ap (found (ranked rank x)) (at_values (pos r) gave) ∙ ap (λ c. found c here) (sym (cell_read x read h))
-
-      pub finds_clash : r < rank x.floor → Clashes ≡ found (cell (ranked_all rank cells) i) here
-      finds_clash l = found_below (ranked rank x) r l ∙ here_found
-
-      pub finds_lower : rank x.floor ≤ r → r < rank x.value → Lowers r ≡ found (cell (ranked_all rank cells) i) here
-      finds_lower l k = found_between (ranked rank x) r l k ∙ here_found
-
-      pub finds_kept : rank x.floor ≤ r → rank x.value ≤ r → Keeps ≡ found (cell (ranked_all rank cells) i) here
-      finds_kept l k = found_above (ranked rank x) r l k ∙ here_found
+  -- a limit of this number gave z at the sample, whose cell became y
+  pub visits : (number : Number) (d y : Cell G) (z : ℤ) (r : Finding) → i < length cells → z ≡ number (ranks rank cells) i
+      → r ≡ found (ranked rank (get_or cells i d)) z → ranked rank y ≡ fallen r (ranked rank (get_or cells i d)) → Visited rank number cells (set cells i y) i r
+  visits number d y z r h gave finding fell = record {
+    finding = finding ∙ ap (λ c. found c z) (sym (cell_ranked d h)) ∙ ap (found (cell (ranked_all rank cells) i)) (gave ∙ ap (λ p. number p i) (sym (values_ranked rank cells)));
+    sheet = changed d y (fallen r) h fell ∙ lowered_is r i (ranked_all rank cells);
+  }

@@ -8,6 +8,12 @@ use Rattle.limit.specs.Numbers.{Number}
 use Rattle.runs.specs.Sheets.{Sheet, cell, values, with_value}
 use Rattle.runs.specs.Evaluations.{found}
 
+-- a cell after this was found there
+abbrev pub fallen : Finding → Cell ℕ → Cell ℕ
+fallen Keeps c = c
+fallen (Lowers r) c = with_value r c
+fallen Clashes c = c
+
 -- the sheet after this was found at sample i
 abbrev pub lowered : Finding → ℕ → Sheet → Sheet
 lowered Keeps i s = s

@@ -1,13 +1,12 @@
 // Cuts and lifts of one cell, for every make of grade.
-ghost use Rattle.std.specs.Prelude.{◌≡◌, ◌<◌, ◌≤◌, length, slice_set};
-ghost use Rattle.grade.specs.Ranks.{ranked_all};
-ghost use Rattle.runs.specs.Sheets.{cell};
+ghost use Rattle.std.specs.Prelude.{◌≡◌};
+ghost use Rattle.grade.specs.Ranks.{ranked};
 ghost use Rattle.sweep.specs.Changes.{cutting, cut_to, lifting, lift_to};
 
 use grade::{Cell, Grade, higher, lower};
 
 // What a cut means for the value of its sample.
-#[derive(Clone, Copy)]
+#[derive(Clone, Copy, Debug, PartialEq, Eq)]
 pub enum Cutting {
     // The value is no higher than the cut.
     Slack,
@@ -17,40 +16,40 @@ pub enum Cutting {
     Clash,
 }
 
-// The cap of a sample falls to a value, unless it is lower already.
-pub fn cut_cell<G: Grade>(cells: &mut [Cell<G>], at: usize, value: u32) -> Cutting
-    requires { (at < length cells.old) × (value ≤ G.Grade.top) }
-    ensures which { result ≡ cutting value (cell (ranked_all G.Grade.rank cells.old) at) }
-    ensures sheet { ranked_all G.Grade.rank cells.new ≡ slice_set (ranked_all G.Grade.rank cells.old) at (cut_to result value (cell (ranked_all G.Grade.rank cells.old) at)) }
-{
-    let old = cells[at];
-    let new = G::of_rank(value);
-    let cap = lower(old.cap, new);
-    if value >= old.value.rank() {
-        cells[at] = Cell { cap, ..old };
-        return Cutting::Slack;
-    }
-    if value < old.floor.rank() {
-        cells[at] = Cell { cap, ..old };
-        return Cutting::Clash;
-    }
-    cells[at] = Cell {
-        value: new,
-        cap,
-        floor: old.floor,
-    };
-    Cutting::Lowering
+// What a lift means for the value of its sample.
+#[derive(Clone, Copy, Debug, PartialEq, Eq)]
+pub enum Lifting {
+    // The value is no lower than the lifted floor.
+    Slack,
+    // The value would have to rise, and stays.
+    Clash,
 }
 
-// The floor of a sample rises to a value, unless it is higher already; says whether it now lies above the sample's value.
-pub fn lift_cell<G: Grade>(cells: &mut [Cell<G>], at: usize, value: u32) -> bool
-    requires { (at < length cells.old) × (value ≤ G.Grade.top) }
-    ensures which { result ≡ lifting value (cell (ranked_all G.Grade.rank cells.old) at) }
-    ensures sheet { ranked_all G.Grade.rank cells.new ≡ slice_set (ranked_all G.Grade.rank cells.old) at (lift_to value (cell (ranked_all G.Grade.rank cells.old) at)) }
+// The cap of a cell falls to a grade, unless it is lower already.
+pub fn cut_cell<G: Grade>(cell: &mut Cell<G>, to: G) -> Cutting
+    ensures which { result ≡ cutting (G.Grade.rank to) (ranked G.Grade.rank cell.old) }
+    ensures cell { ranked G.Grade.rank cell.new ≡ cut_to result (G.Grade.rank to) (ranked G.Grade.rank cell.old) }
 {
-    let old = cells[at];
-    let new = G::of_rank(value);
-    let floor = higher(old.floor, new);
-    cells[at] = Cell { floor, ..old };
-    old.value.rank() < floor.rank()
+    cell.cap = lower(cell.cap, to);
+    if to.rank() >= cell.value.rank() {
+        Cutting::Slack
+    } else if to.rank() < cell.floor.rank() {
+        Cutting::Clash
+    } else {
+        cell.value = to;
+        Cutting::Lowering
+    }
+}
+
+// The floor of a cell rises to a grade, unless it is higher already.
+pub fn lift_cell<G: Grade>(cell: &mut Cell<G>, to: G) -> Lifting
+    ensures which { result ≡ lifting (G.Grade.rank to) (ranked G.Grade.rank cell.old) }
+    ensures cell { ranked G.Grade.rank cell.new ≡ lift_to (G.Grade.rank to) (ranked G.Grade.rank cell.old) }
+{
+    cell.floor = higher(cell.floor, to);
+    if cell.value.rank() < cell.floor.rank() {
+        Lifting::Clash
+    } else {
+        Lifting::Slack
+    }
 }

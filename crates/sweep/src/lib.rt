@@ -10,7 +10,7 @@ mod totalling;
 mod visiting;
 
 pub use beginning::{begin, check};
-pub use changing::{Cutting, cut_cell, lift_cell};
+pub use changing::{Cutting, Lifting, cut_cell, lift_cell};
 pub use step::Step;
 pub use stepping::sweep_step;
 pub use sweeping::{FRESH, Outcome};

@@ -1,11 +1,26 @@
 // What a step of a sweep found.
-use super::sweeping::Outcome;
+ghost use Rattle.std.specs.Prelude.{◌≡◌};
+ghost use Rattle.runs.specs.Evaluations.{lowering};
 
-#[derive(Clone, Copy)]
+use super::sweeping::Outcome;
+use runs::Finding;
+
+#[derive(Clone, Copy, Debug, PartialEq, Eq)]
 pub struct Step {
     // The sample that it visited.
     pub at: usize,
-    // How many values it lowered, one or none.
-    pub lowerings: u64,
+    pub finding: Finding,
     pub outcome: Outcome,
+}
+
+impl Step {
+    // How many values it lowered, one or none.
+    pub fn lowerings(&self) -> u64
+        ensures { result ≡ lowering self.now.finding }
+    {
+        match self.finding {
+            Finding::Lowers(_) => 1,
+            Finding::Keeps | Finding::Clashes => 0,
+        }
+    }
 }

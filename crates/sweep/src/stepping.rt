@@ -1,6 +1,5 @@
 // A step of a sweep: one evaluation at the sample that comes next, the same for every make of grade and every limit.
-ghost use Rattle.std.specs.Prelude.{◌≡◌, ◌<◌, length};
-ghost use Rattle.runs.specs.Evaluations.{lowering};
+ghost use Rattle.std.specs.Prelude.{◌<◌, length};
 ghost use Rattle.sweep.specs.Steps.{Stepped};
 
 use super::step::Step;
@@ -8,17 +7,7 @@ use super::sweeping::{next_sample, outcome_of};
 use super::visiting::visit;
 use grade::{Cell, Grade};
 use limit::Limit;
-use runs::{Finding, Sweep};
-
-// How many values a finding lowers.
-fn lowerings(finding: Finding) -> u64
-    ensures { result ≡ lowering finding }
-{
-    match finding {
-        Finding::Lowers(_) => 1,
-        Finding::Keeps | Finding::Clashes => 0,
-    }
-}
+use runs::Sweep;
 
 pub fn sweep_step<G: Grade, L: Limit<G>>(cells: &mut [Cell<G>], limit: &L, sweep: Sweep) -> Step
     requires { sweep.visited < length cells.old }
@@ -29,7 +18,7 @@ pub fn sweep_step<G: Grade, L: Limit<G>>(cells: &mut [Cell<G>], limit: &L, sweep
     let finding = visit(cells, limit, at);
     Step {
         at,
-        lowerings: lowerings(finding),
+        finding,
         outcome: outcome_of(sweep, finding, samples),
     }
 }

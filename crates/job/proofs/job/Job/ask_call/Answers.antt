@@ -1,21 +1,10 @@
-use Rattle.std.proofs.Common.{IfOk, sym, ap, ◌∙◌, subst}
+use Rattle.std.proofs.Common.{sym, ap, ◌∙◌, ⊎_elim}
 use Rattle.runs.specs.Calls.{verdict}
-use Rattle.job.specs.Calling.{InRange}
 use Rattle.job.specs.Whole.{setting}
 use Rattle.job.proofs.job.Job.ask_call.Goals as goal
 
-pub returns-in-Cut : goal.returns-in-Cut
-returns-in-Cut c =
-    let n = c.args.self.now.samples.count in
-    record {
-      is = λ a b. c.ask_change.ensures.is a b ∙ ap (λ x. verdict (setting n a b) x c.args.self.now.stage) (sym c.in-Cut.is);
-      range = subst (λ x. IfOk c.ask_change.result (λ _. InRange n x)) (sym c.in-Cut.is) c.ask_change.ensures.within;
-    }
-
-pub returns-in-Lift : goal.returns-in-Lift
-returns-in-Lift c =
-    let n = c.args.self.now.samples.count in
-    record {
-      is = λ a b. c.ask_change-in-Lift.ensures.is a b ∙ ap (λ x. verdict (setting n a b) x c.args.self.now.stage) (sym c.in-Lift.is);
-      range = subst (λ x. IfOk c.ask_change-in-Lift.result (λ _. InRange n x)) (sym c.in-Lift.is) c.ask_change-in-Lift.ensures.within;
-    }
+pub returns-in-Cut-clause-is : goal.returns-in-Cut-clause-is
+returns-in-Cut-clause-is c a b =
+    let σ = setting c.args.self.now.samples.count a b in
+    let t = c.args.self.now.stage in
+    c.ask_change.ensures.is a b ∙ ⊎_elim (λ e. ap (λ x. verdict σ x t) (sym e)) (λ e. ap (λ x. verdict σ x t) (sym e)) c.in-Cut.is

@@ -1,45 +1,25 @@
-use Rattle.std.proofs.Common.{◌-◌, take, Err, refl, ap, ◌∙◌, arith}
-use Rattle.std.proofs.lemmas.List.{length-take-le}
-use Rattle.std.proofs.lemmas.Result.{err_from_is_err_and}
-use Rattle.runs.specs.declared.call.Answer.TheVariants.{Done}
+use Rattle.std.proofs.Common.{take, refl, ap, ◌∙◌}
 use Rattle.runs.specs.declared.call.Call.TheVariants.{Cut}
+use Rattle.runs.specs.declared.reply.Reply.TheVariants.{Done}
 use Rattle.runs.specs.declared.stage.Make.TheVariants.{Speeds}
 use Rattle.runs.specs.Sheets.{Sheets}
-use Rattle.runs.specs.Calls.{acted, replied}
+use Rattle.runs.specs.Jobs.{job}
+use Rattle.runs.specs.Calls.{acted, replied, cut}
 use Rattle.job.specs.Whole.{sheets_of}
-use Rattle.job.specs.Holding.{held}
-use Rattle.job.specs.Calling.{done}
-use Rattle.job.proofs.Acting.{acts_speeds}
-use Rattle.job.proofs.Cuts.{cuts}
-use Rattle.job.proofs.Lawful.{promised, promised_refused}
+use Rattle.job.proofs.Lawful.{promised_refused, speed_changed}
 use Rattle.job.proofs.job.Job.speed_cut.Goals as goal
 
 pub returns-in_err-ask : goal.returns-in_err-ask
 returns-in_err-ask c =
-    let r = c.from_residual.result in
-    let p = err_from_is_err_and r c.from_residual.ensures.1 in
-    record {
-      lent = refl;
-      promises = promised_refused (Cut Speeds c.args.sample c.args.value) c.args.self.now c.args.classes.now.cells.now c.args.speeds.now.cells.now (done r) c.in_err-ask.field-0.0
-          (ap done (p.1 ∙ ap Err p.2)) c.in_err-ask.ensures.is;
-    }
+    promised_refused (Cut Speeds c.args.sample c.args.value) c.args.self.now c.args.classes.now c.args.speeds.now (λ _. Done) c.from_residual.result c.in_err-ask.field-0.0
+    c.from_residual.ensures.1 c.in_err-ask.ensures.is
 
 pub returns : goal.returns
 unfolding acted replied
 returns c =
     let j = c.args.self.now in
-    let classes = c.args.classes.now.cells.now in
-    let speeds = c.args.speeds.now.cells.now in
-    let n = j.samples.count - 0 in
+    let n = j.samples.count in
     let i = c.args.sample in
-    let v = c.args.value in
-    let room = c.in_ok-ask.ensures.room in
-    let S : Sheets = sheets_of (take n classes) (take n speeds) in
-    let S' : Sheets = sheets_of (take n classes) c.cut_cell-cutting.new.cells in
-    let acted_is = cuts Speeds i v j.stage j.sweep S S' _ c.cut_cell-cutting.result c.cut_cell-cutting.ensures.which (ap (λ s. record { classes = S.classes; speeds = s }) c.cut_cell-cutting.ensures.sheet) (c.after_cut.ensures.recut S') in
-    record {
-      lent = refl;
-      promises = promised (Cut Speeds i v) (held j classes speeds) _ Done
-          (λ a b. acts_speeds a b (Cut Speeds i v) j classes speeds (c.in_ok-ask.ensures.is a b) room.0 room.1 n (omega arith) c.after_cut.new.self c.after_cut.ensures.samples Done
-          c.cut_cell-cutting.new.cells (c.cut_cell-cutting.auto.cells ∙ length-take-le n speeds (omega (arith, room.1))) acted_is refl);
-    }
+    let S : Sheets = sheets_of (take n c.args.classes.now) (take n c.args.speeds.now) in
+    speed_changed (Cut Speeds i c.args.value) j c.cut.new.self c.args.classes.now c.args.speeds.now c.in_ok-ask.ensures.is c.in_ok-ask.ensures.room c.cut.ensures.samples (λ _ _. refl)
+    c.cut.new.cells c.cut.auto.cells (λ a b. c.cut.ensures.cut S refl ∙ ap (λ v. cut Speeds i v (job j.stage j.sweep S)) c.of_rank-to.ensures)

@@ -1,0 +1,6 @@
+// The two limits that a job works under, one for each make.
+#[derive_where(Clone, Copy)]
+pub struct Limits<'a, C, S> {
+    pub classes: &'a C,
+    pub speeds: &'a S,
+}
