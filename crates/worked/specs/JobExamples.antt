@@ -6,8 +6,8 @@ use Rattle.record.specs.declared.gap.Gap.{Gap}
 use Rattle.record.specs.declared.sample.Sample.{Sample}
 use Rattle.frame.specs.Paths.{Path, path_read}
 use Rattle.sources.specs.Sources.{class_number, speed_number}
-use Rattle.runs.specs.declared.call.Answer.{Answer}
-use Rattle.runs.specs.declared.call.Answer.TheVariants.{Advanced}
+use Rattle.runs.specs.declared.reply.Reply.TheVariants.{Advanced}
+use Rattle.runs.specs.Answers.{Answer}
 use Rattle.runs.specs.declared.call.Call.TheVariants.{Advance}
 use Rattle.runs.specs.declared.stage.Make.TheVariants.{Classes, Speeds}
 use Rattle.runs.specs.declared.stage.Stage.TheVariants.{Working, Settled}
@@ -70,7 +70,7 @@ answer k = answers under (Advance k ∷ []) begun
 -- an advance with the allowance k settles it
 pub record Settles (k : ℕ) : Type 0 where
   -- after 9 evaluations, 2 of which lowered a value
-  pub answered : answer k ≡ Advanced Settled 9 2 ∷ []
+  pub answered : answer k ≡ Ok (Advanced (record { stage = Settled; evaluations = 9; lowerings = 2 })) ∷ []
   pub classes : own (advanced k).sheets Classes ≡ 7 ∷ 7 ∷ 7 ∷ []
   pub speeds : own (advanced k).sheets Speeds ≡ 0 ∷ 1 ∷ 2 ∷ []
 
@@ -78,7 +78,7 @@ pub record JobExamples : Type 0 where
   pub read : path_read frame ≡ Ok path
   pub settles : Settles 9
   -- one evaluation fewer leaves it at work
-  pub works : answer 8 ≡ Advanced (Working Speeds) 8 2 ∷ []
+  pub works : answer 8 ≡ Ok (Advanced (record { stage = Working Speeds; evaluations = 8; lowerings = 2 })) ∷ []
   -- samples × (sum of the classes + sum of the squared speeds + 3) suffices
   pub sufficient : path.header.samples * (sum (own begun.sheets Classes) + sum (own begun.sheets Speeds) + 3) ≡ 126
   pub suffices : Settles 126
