@@ -10,7 +10,7 @@ use Rattle.frame.specs.declared.fault.FrameFault.{FrameFault}
 use Rattle.frame.specs.declared.fault.FrameFault.TheVariants as frame
 use Rattle.frame.specs.Layout.{frame_size_of}
 use Rattle.frame.specs.Records.{fault, records_read, ok_of, record_at_of}
-use Rattle.frame.specs.Paths.{Path, header_at, header_read, path_read, accepted}
+use Rattle.frame.specs.Paths.{Path, header_at, header_read, sample_place, sample_at_of, path_read, accepted}
 use Rattle.frame.specs.Views.{shown, path_of, nth}
 use Rattle.frame.proofs.Whole.{Held, read_whole}
 
@@ -66,6 +66,25 @@ yes' bs e =
     let f = header_facts bs (path_of bs).header w.0 in
     record { read = r; header = f; held = subst (λ (x : Header). Held bs x (path_of bs)) f.is w.1 }
 
+pub header_is : (bs : List ℕ) → accepted bs ≡ true → header_at bs ≡ (path_of bs).header
+header_is bs e = sym (yes' bs e).header.is
+
+pub header_long : (bs : List ℕ) → accepted bs ≡ true → 15 ≤ length bs
+header_long bs e = (yes' bs e).header.long
+
+-- the header bounds the records, and the frame is long enough for them
+pub header_many : (bs : List ℕ) → accepted bs ≡ true → (header_at bs).samples ≤ 4096
+header_many bs e = let y = yes' bs e in subst (λ (h : Header). h.samples ≤ 4096) y.header.is y.header.many
+
+pub header_rowed : (bs : List ℕ) → accepted bs ≡ true → (header_at bs).rows ≤ 8192
+header_rowed bs e = let y = yes' bs e in subst (λ (h : Header). h.rows ≤ 8192) y.header.is y.header.rowed
+
+pub header_sized : (bs : List ℕ) → accepted bs ≡ true → length bs ≡ frame_size_of (header_at bs).samples (header_at bs).rows
+header_sized bs e = let y = yes' bs e in subst (λ (h : Header). length bs ≡ frame_size_of h.samples h.rows) y.header.is y.header.size
+
+pub path_sized : (bs : List ℕ) → accepted bs ≡ true → length bs ≡ frame_size_of (path_of bs).header.samples (path_of bs).header.rows
+path_sized bs e = (yes' bs e).header.size
+
 -- ---- a record by its number
 
 below : (j k : ℕ) → ltb (suc j) (suc k) ≡ ltb j k
@@ -92,3 +111,6 @@ record_nth {T = T} {F = F} place read (suc k) i xs e j =
 -- as an accessor gives it
 pub record_is : {T F : Type 0} (place : ℕ → ℕ) (read : ℕ → Result T F) (k : ℕ) (xs : List T) → records_read place read k 0 ≡ Ok xs → (j : ℕ) → record_at_of read k j ≡ nth xs j
 record_is place read k xs e j = let z : 0 + j ≡ j = omega arith in ap (λ (n : ℕ). cond (ltb j k) (ok_of (read n)) None) (sym z) ∙ record_nth place read k 0 xs e j
+
+pub sample_is : (bs : List ℕ) (i : ℕ) → accepted bs ≡ true → record_at_of (sample_at_of bs (header_at bs)) (header_at bs).samples i ≡ nth (path_of bs).samples i
+sample_is bs i e = record_is sample_place (sample_at_of bs (header_at bs)) (header_at bs).samples _ (yes' bs e).held.samples i

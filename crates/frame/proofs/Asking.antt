@@ -13,6 +13,9 @@ module _ {T F : Type 0} (place : ℕ → ℕ) (read : ℕ → Result T F) (n i :
   step : records_read place read (n - i) i ≡ within (fault place i) (read i) (λ x. within (λ f. f) (records_read place read (n - (i + 1)) (i + 1)) (λ xs. Ok (x ∷ xs)))
   step = let e : n - i ≡ suc (n - (i + 1)) = omega arith in rw e refl
 
+  pub at_err : (f : F) → read i ≡ Err f → done (records_read place read (n - i) i) ≡ Err (fault place i f)
+  at_err f e = ap done (step ∙ ap (λ (r : Result T F). within (fault place i) r (λ x. within (λ f. f) (records_read place read (n - (i + 1)) (i + 1)) (λ xs. Ok (x ∷ xs)))) e)
+
   at_ok : (r : Result T F) → read i ≡ r → is_ok r ≡ true → done (records_read place read (n - i) i) ≡ done (records_read place read (n - (i + 1)) (i + 1))
   at_ok (Ok x) e y =
       ap done (step ∙ ap (λ (r : Result T F). within (fault place i) r (λ x. within (λ f. f) (records_read place read (n - (i + 1)) (i + 1)) (λ xs. Ok (x ∷ xs)))) e)

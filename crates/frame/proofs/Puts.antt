@@ -4,6 +4,7 @@ use Rattle.words.specs.Words.{Bytes, slice}
 use Rattle.record.specs.declared.sample.Sample.{Sample}
 use Rattle.record.specs.declared.gap.Gap.{Gap}
 use Rattle.torque.specs.declared.row.Row.{Row}
+use Rattle.clause.specs.Clauses.{Legal}
 use Rattle.record.specs.Samples.{sample_words_at, words_of_sample, sample_bytes}
 use Rattle.record.specs.Gaps.{gap_words_at, words_of_gap, gap_bytes}
 use Rattle.record.specs.Rows.{row_words_at, words_of_row, row_bytes}
@@ -21,6 +22,9 @@ module _ (bs : List ℕ) (h : Header) (i : ℕ) (b : Bytes bs) where
 
   pub sample_again : (s : Sample) → samples_at + 20 * i + 20 ≤ length bs → sample_at_of bs h i ≡ Ok s → sample_bytes (words_of_sample s) ≡ slice bs (samples_at + 20 * i) 20
   sample_again s l e = ap sample_bytes (sample_known s l e).words ∙ sample_slice bs (samples_at + 20 * i) b l
+
+  pub sample_legal : (s : Sample) → samples_at + 20 * i + 20 ≤ length bs → sample_at_of bs h i ≡ Ok s → Legal s.clause
+  sample_legal s l e = (sample_known s l e).legal
 
   pub gap_known : (g : Gap) → gap_at bs h i ≡ Ok g → GapFacts (gap_words_at bs (gaps_at h.samples + 12 * i)) g
   unfolding gap_at

@@ -1,10 +1,7 @@
 -- Records written one after another, each where it lies.
-use Rattle.std.proofs.Common.{◌≡◌, ℕ, ◌+◌, ◌*◌, ◌<◌, ◌≤◌, List, length, sym, refl, ap, ◌∙◌, mul-le-mul_left, mul-zero, mul-one, mul-add, arith}
+use Rattle.std.proofs.Common.{◌≡◌, ℕ, ◌+◌, ◌*◌, ◌<◌, ◌≤◌, List, length, sym, refl, ap, ◌∙◌, mul-le-mul_left, mul-one, mul-add, arith}
 use Rattle.words.specs.Words.{slice, written}
-use Rattle.words.proofs.Writes.{nothing, slices_written}
-
-pub none_written : (d bs : List ℕ) (start size : ℕ) → d ≡ written d start (slice bs start (size * 0))
-none_written d bs start size = nothing d start ∙ ap (λ (k : ℕ). written d start (slice bs start k)) (sym (mul-zero size))
+use Rattle.words.proofs.Writes.{slices_written}
 
 more : (size i : ℕ) → size * i + size ≡ size * (i + 1)
 more size i = sym (mul-add size i 1 ∙ ap (λ (k : ℕ). size * i + k) (mul-one size))

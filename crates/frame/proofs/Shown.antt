@@ -5,6 +5,7 @@ use Rattle.words.specs.Words.{Bytes}
 use Rattle.record.specs.declared.sample.Sample.{Sample}
 use Rattle.record.specs.declared.gap.Gap.{Gap}
 use Rattle.torque.specs.declared.row.Row.{Row}
+use Rattle.clause.specs.Clauses.{Legal}
 use Rattle.record.specs.Samples.{sample_words_at}
 use Rattle.record.specs.Gaps.{gap_words_at}
 use Rattle.record.specs.Rows.{row_words_at}
@@ -46,3 +47,6 @@ module _ (bs : List ℕ) (b : Bytes bs) (e : accepted bs ≡ true) (i : ℕ) whe
       let a = answered (ltb i h.rows) (row_at bs h i) r (record_is (row_place_of h) (row_at bs h) h.rows (path_of bs).rows (yes' bs e).held.rows i ∙ f) in
       let l = ltb-true i h.rows a.0 in
       (l, row_known bs h i b r (omega (arith, sized bs e)) a.1)
+
+  pub sample_legal : (s : Sample) → nth (path_of bs).samples i ≡ Some s → Legal s.clause
+  sample_legal s f = (sample_shown s f).1.legal

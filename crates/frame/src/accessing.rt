@@ -21,12 +21,14 @@ impl<'a> PathFrame<'a> {
     }
 
     /// How many samples and rows there are, the spacing and the lateral number.
+    #[tactic(auto, using(crate::proofs::Accepted::header_long, crate::proofs::Accepted::header_is))]
     pub fn header(&self) -> Header
         ensures { result ≡ (path_of self.now.bytes.now).header }
     {
         header_at(self.bytes)
     }
 
+    #[tactic(auto, using(crate::proofs::Accepted::header_long, crate::proofs::Accepted::header_many, crate::proofs::Accepted::header_rowed, crate::proofs::Accepted::header_sized))]
     pub(crate) fn body(&self) -> Body<'a>
         ensures bytes { result.bytes.now ≡ self.now.bytes.now }
         ensures header { result.header ≡ header_at self.now.bytes.now }
@@ -38,6 +40,7 @@ impl<'a> PathFrame<'a> {
     }
 
     /// A sample by its number, or nothing past the last.
+    #[tactic(auto, using(crate::proofs::Accepted::sample_is))]
     pub fn sample(&self, index: usize) -> Option<Sample>
         ensures { result ≡ nth (path_of self.now.bytes.now).samples index }
     {
@@ -45,6 +48,7 @@ impl<'a> PathFrame<'a> {
     }
 
     /// The cap on a sample's squared speed that its clause gives, or nothing past the last sample.
+    #[tactic(auto, using(crate::proofs::Shown::sample_legal))]
     pub fn speed_cap(&self, index: usize) -> Option<u32>
         ensures { CapShown (path_of self.now.bytes.now) index result }
     {

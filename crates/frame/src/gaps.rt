@@ -29,10 +29,12 @@ impl<'a> Records<Gap, GapFault> for Body<'a> {
         self.gap_offset(index) as u32
     }
 
+    #[tactic(auto, unfolding(crate::specs::Paths::gap_at))]
     fn read(&self, index: usize) -> Result<Gap, GapFault> {
         GapWords::at(self.bytes, self.gap_offset(index)).read()
     }
 
+    #[tactic(auto, using(crate::proofs::Puts::gap_again))]
     fn put(&self, index: usize, out: &mut [u8]) {
         let read: Result<Gap, GapFault> = self.read(index);
         put(out, self.gap_offset(index), &read.unwrap().bytes());

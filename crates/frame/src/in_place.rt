@@ -10,6 +10,7 @@ use words::be32;
 // Three reads of three kinds at three places: they share no more than the form of the test of the number.
 impl PathFrame<'_> {
     /// A gap by its number, or nothing past the last.
+    #[tactic(auto, using(crate::proofs::InPlace::gap_past, crate::proofs::InPlace::gap_is))]
     pub fn gap(&self, index: usize) -> Option<Gap>
         ensures { result ≡ nth (path_of self.now.bytes.now).gaps index }
     {
@@ -21,6 +22,7 @@ impl PathFrame<'_> {
     }
 
     /// A torque row by its number, or nothing past the last.
+    #[tactic(auto, using(crate::proofs::InPlace::row_past, crate::proofs::InPlace::row_is))]
     pub fn row(&self, index: usize) -> Option<TorqueRow>
         ensures { result ≡ nth (path_of self.now.bytes.now).rows index }
     {
@@ -32,6 +34,7 @@ impl PathFrame<'_> {
     }
 
     /// The offset q of a sample's average, or nothing past the last sample.
+    #[tactic(auto, using(crate::proofs::InPlace::offset_past, crate::proofs::InPlace::offset_is))]
     pub fn offset(&self, index: usize) -> Option<i32>
         ensures { result ≡ offset_in (nth (path_of self.now.bytes.now).samples index) }
     {

@@ -78,6 +78,7 @@ fn ask_records(body: Body<'_>) -> Result<(), FrameFault>
 }
 
 /// Reads a path frame: the header of an accepted frame, whose records `PathFrame` then hands out, or the one refusal.
+#[tactic(auto, using(crate::proofs::Accepted::header_facts, crate::proofs::Whole::all_records))]
 pub fn read(bytes: &[u8]) -> Result<Header, FrameFault>
     ensures { result ≡ header_of (path_read bytes.now) }
 {

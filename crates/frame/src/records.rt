@@ -43,6 +43,7 @@ pub trait Records<T, F> {
 }
 
 // Asks the records in order: the first that says no.
+#[tactic(auto, using(crate::proofs::Asking::at_yes, crate::proofs::Asking::at_err))]
 pub(crate) fn check_records<T: Copy, F: Copy, R: Records<T, F>>(
     records: &R,
 ) -> Result<(), RecordFault<F>>
@@ -69,6 +70,7 @@ pub(crate) fn record_at<T: Copy, F: Copy, R: Records<T, F>>(records: &R, index: 
 }
 
 // Writes all the records where they lie: what stood there in the frame stands there again.
+#[tactic(auto, using(crate::proofs::Runs::one_written))]
 pub(crate) fn put_records<T: Copy, F: Copy, R: Records<T, F>>(records: &R, out: &mut [u8])
     requires bytes { Bytes (R.Records.source records.now) }
     requires accepted { (i : ℕ) → i < R.Records.count records.now → is_ok (R.Records.answer records.now i) ≡ true }

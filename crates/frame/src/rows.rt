@@ -28,10 +28,12 @@ impl<'a> Records<TorqueRow, RowFault> for Body<'a> {
         self.row_offset(index) as u32
     }
 
+    #[tactic(auto, unfolding(crate::specs::Paths::row_at))]
     fn read(&self, index: usize) -> Result<TorqueRow, RowFault> {
         RowWords::at(self.bytes, self.row_offset(index)).read(self.row_place(index))
     }
 
+    #[tactic(auto, using(crate::proofs::Puts::row_again))]
     fn put(&self, index: usize, out: &mut [u8]) {
         let read: Result<TorqueRow, RowFault> = self.read(index);
         put(out, self.row_offset(index), &RowWords::from(read.unwrap()).bytes());

@@ -29,11 +29,13 @@ impl<'a> Records<Sample, SampleFault> for Body<'a> {
         self.sample_offset(index) as u32
     }
 
+    #[tactic(auto, unfolding(crate::specs::Paths::sample_at_of))]
     fn read(&self, index: usize) -> Result<Sample, SampleFault> {
         let end = at_end(self.header.samples as usize, index);
         SampleWords::at(self.bytes, self.sample_offset(index)).read(end)
     }
 
+    #[tactic(auto, using(crate::proofs::Puts::sample_legal, crate::proofs::Puts::sample_again))]
     fn put(&self, index: usize, out: &mut [u8]) {
         let read: Result<Sample, SampleFault> = self.read(index);
         put(out, self.sample_offset(index), &read.unwrap().bytes());

@@ -44,6 +44,7 @@ impl Error for WriteFault {}
 
 impl PathFrame<'_> {
     /// Writes the records into memory: the frame's bytes in front, the rest untouched; or too little memory, and nothing changes.
+    #[tactic(auto, using(crate::proofs::Accepted::path_sized, crate::proofs::Again::rewritable))]
     pub fn write(&self, out: &mut [u8]) -> Result<usize, WriteFault>
         ensures { Writes self.now.bytes.now out.old out.new result }
     {

@@ -1,4 +1,5 @@
 // Frames for tests: a small path of four samples, three gaps and two torque rows, and changes to it.
+use clause::ClauseKind;
 use frame::{PathFrame, read};
 use std::alloc::{AllocError, Global};
 
@@ -38,33 +39,28 @@ pub fn set_word(bytes: &mut Vec<u8>, at: usize, value: u32) {
     set(bytes, at.saturating_add(3), low);
 }
 
-// The number and the place of a refusal, or 0 and 0 where the bytes are accepted.
-pub fn refusal(bytes: &[u8]) -> (u8, u64) {
-    match read(bytes) {
-        Ok(_) => (0, 0),
-        Err(fault) => {
-            let refusal = fault.refusal();
-            (refusal.number, refusal.place)
-        }
-    }
+// The number and the place of a refusal, or nothing where the bytes are accepted.
+pub fn refusal(bytes: &[u8]) -> Option<(u8, u64)> {
+    let refusal = read(bytes).err()?.refusal();
+    Some((refusal.number, refusal.place))
 }
 
 // The cap of the second sample where its clause has this kind and these numbers; nothing where the frame is refused.
 pub fn cap(
     heap: Global,
     lateral: u32,
-    kind: u8,
+    kind: ClauseKind,
     first: u32,
     second: u32,
 ) -> Result<Option<u32>, AllocError> {
     let mut bytes = path(heap)?;
     set_word(&mut bytes, 9, lateral);
-    set(&mut bytes, SAMPLES + 20, kind);
+    set(&mut bytes, SAMPLES + 20, kind.into());
     set_word(&mut bytes, SAMPLES + 24, first);
     set_word(&mut bytes, SAMPLES + 28, second);
     let bytes = bytes.as_slice();
-    match read(bytes) {
-        Ok(_) => Ok(PathFrame::over(bytes).speed_cap(1)),
-        Err(_) => Ok(None),
+    if read(bytes).is_err() {
+        return Ok(None);
     }
+    Ok(PathFrame::over(bytes).speed_cap(1))
 }

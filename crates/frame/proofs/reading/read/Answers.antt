@@ -1,8 +1,7 @@
-use Rattle.std.proofs.Common.{Err, sym, ap, ◌∙◌, le_of_eq}
+use Rattle.std.proofs.Common.{Err, sym, ap, ◌∙◌}
 use Rattle.std.proofs.lemmas.Result.{err_from_is_err_and}
 use Rattle.frame.specs.declared.fault.FrameFault.{FrameFault}
-use Rattle.frame.proofs.Accepted.{header_facts}
-use Rattle.frame.proofs.Whole.{no_header, no_records, all_records}
+use Rattle.frame.proofs.Whole.{no_header, no_records}
 use Rattle.frame.proofs.reading.read.Goals as goal
 
 pub returns-in_err-header : goal.returns-in_err-header
@@ -17,11 +16,3 @@ returns-in_err-ask_records c =
     let fault = c.in_err-ask_records.field-0.0 in
     p.1 ∙ ap (λ (f : FrameFault). Err f) p.2
     ∙ sym (no_records c.args.bytes.now c.in_ok-header.header fault (sym c.in_ok-header.ensures) (sym c.in_err-ask_records.ensures))
-
-pub returns : goal.returns
-returns c = sym (all_records c.args.bytes.now c.in_ok-header.header (sym c.in_ok-header.ensures) (sym c.in_ok-ask_records.ensures))
-
-pub invariant_of-ask_records : goal.invariant_of-ask_records
-invariant_of-ask_records c =
-    let known = header_facts c.args.bytes.now c.in_ok-header.header (sym c.in_ok-header.ensures) in
-    record { samples = known.many; rows = known.rowed; long = le_of_eq (sym known.size) }

@@ -1,11 +1,9 @@
-use Rattle.std.proofs.Common.{◌≡◌, ℕ, ◌<◌, ◌≤◌, List, ◌++◌, length, drop, sym, ap, ◌∙◌, subst, arith}
+use Rattle.std.proofs.Common.{◌≡◌, ℕ, ◌<◌, ◌≤◌, List, ◌++◌, length, drop, sym, ap, ◌∙◌, arith}
 use Rattle.frame.specs.declared.header.Header.{Header}
 use Rattle.frame.specs.Layout.{frame_size_of}
-use Rattle.frame.specs.Paths.{header_at}
 use Rattle.frame.specs.Views.{path_of}
-use Rattle.frame.specs.Writes.{Rewritable}
-use Rattle.frame.proofs.Accepted.{yes'}
-use Rattle.frame.proofs.Again.{rewritable, writes_nothing, writes_all}
+use Rattle.frame.proofs.Accepted.{path_sized}
+use Rattle.frame.proofs.Again.{writes_nothing, writes_all}
 use Rattle.frame.proofs.view.PathFrame.write.Goals as goal
 
 -- the size of the frame, as its header tells it
@@ -16,30 +14,15 @@ pub returns-then-out-size : goal.returns-then-out-size
 returns-then-out-size c =
     let bs = c.args.self.now.bytes.now in
     let e = c.args.self.now.sound in
-    let size = sized bs c.header.result c.frame_size-size.result (yes' bs e).header.size c.header.ensures c.frame_size-size.ensures in
+    let size = sized bs c.header.result c.frame_size-size.result (path_sized bs e) c.header.ensures c.frame_size-size.ensures in
     let short : length c.args.out.now < length bs = omega (arith, c.if-out-size.true, size) in
     writes_nothing bs c.args.out.now c.see_bytes.ensures e short
-
--- the frame that a body holds may be written again
-kept : (bs cs : List ℕ) (h : Header) → cs ≡ bs → h ≡ header_at bs → Rewritable bs (header_at bs) → Rewritable cs h
-kept bs cs h e f r = subst (λ (x : List ℕ). Rewritable x h) (sym e) (subst (Rewritable bs) (sym f) r)
-
-pub put_body-requires : goal.put_body-requires
-put_body-requires c =
-    let bs = c.args.self.now.bytes.now in
-    let e = c.args.self.now.sound in
-    let size = sized bs c.header.result c.frame_size-size.result (yes' bs e).header.size c.header.ensures c.frame_size-size.ensures in
-    let same = ap (λ (x : List ℕ). length x) c.body.ensures.bytes in
-    record {
-      sound = kept bs c.body.result.bytes.now c.body.result.header c.body.ensures.bytes c.body.ensures.header (rewritable bs c.see_bytes.ensures e);
-      room = omega (arith, c.if-out-size.false, size, same);
-    }
 
 pub returns : goal.returns
 returns c =
     let bs = c.args.self.now.bytes.now in
     let e = c.args.self.now.sound in
-    let size = sized bs c.header.result c.frame_size-size.result (yes' bs e).header.size c.header.ensures c.frame_size-size.ensures in
+    let size = sized bs c.header.result c.frame_size-size.result (path_sized bs e) c.header.ensures c.frame_size-size.ensures in
     let long : length bs ≤ length c.args.out.now = omega (arith, c.if-out-size.false, size) in
     writes_all bs c.args.out.now c.see_bytes.ensures e c.put_body.new.out c.frame_size-size.result long size
     (c.put_body.ensures ∙ ap (λ (x : List ℕ). x ++ drop (length x) c.args.out.now) c.body.ensures.bytes)
