@@ -33,10 +33,13 @@ impl<'a> Records<TorqueRow, RowFault> for Body<'a> {
         RowWords::at(self.bytes, self.row_offset(index)).read(self.row_place(index))
     }
 
-    #[tactic(auto, using(crate::proofs::Puts::row_again))]
     fn put(&self, index: usize, out: &mut [u8]) {
         let read: Result<TorqueRow, RowFault> = self.read(index);
-        put(out, self.row_offset(index), &RowWords::from(read.unwrap()).bytes());
+        put(
+            out,
+            self.row_offset(index),
+            &RowWords::from(read.unwrap()).bytes(),
+        );
     }
 }
 
