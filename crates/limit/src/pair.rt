@@ -9,7 +9,7 @@ ghost use Rattle.std.proofs.Common.{rules};
 use super::limit::Limit;
 use grade::{Cell, Grade, lower};
 
-#[derive(Drop)]
+#[derive(Debug, PartialEq, Eq, Drop)]
 pub struct Pair<A, B> {
     pub first: A,
     pub second: B,

@@ -13,7 +13,7 @@ use super::reading::{samples, unbounded, value};
 use grade::{Cell, Grade, Speed};
 use limit::Limit;
 
-#[derive(Drop)]
+#[derive(Debug, PartialEq, Eq, Drop)]
 pub struct Average<Q> {
     pub offsets: Q,
 }

@@ -11,7 +11,7 @@ use super::steps::Steps;
 use grade::{Cell, Raisable, lower};
 use limit::Limit;
 
-#[derive(Drop)]
+#[derive(Debug, PartialEq, Eq, Drop)]
 pub struct Ramp<S> {
     pub steps: S,
 }
@@ -28,11 +28,8 @@ impl<G: Raisable, S: Steps> Limit<G> for Ramp<S> {
     ghost monotone = { λ l p q wp wq len le i. ramp_mono G.Grade.top (S.Steps.steps l.steps) p q len (at_most_everywhere p q len le) i };
 
     fn evaluate(&self, cells: &[Cell<G>], at: usize) -> Option<G> {
-        if at >= samples(cells) {
-            return Some(unbounded());
-        }
-        let risen = from_before(&self.steps, cells, at);
-        let fallen = from_after(&self.steps, cells, at);
+        let risen = ramp_before(self, cells, at);
+        let fallen = ramp_after(self, cells, at);
         Some(lower(risen, fallen))
     }
 }
@@ -41,43 +38,20 @@ impl<G: Raisable, S: Steps> Limit<G> for Ramp<S> {
 pub fn ramp_before<G: Raisable, S: Steps>(limit: &Ramp<S>, cells: &[Cell<G>], at: usize) -> G
     ensures { pos (G.Grade.rank result) ≡ before_allows G.Grade.top (S.Steps.steps limit.now.steps) (ranks G.Grade.rank cells.now) at }
 {
-    if at < samples(cells) {
-        from_before(&limit.steps, cells, at)
+    if at > 0 && at < samples(cells) && at <= limit.steps.len() {
+        value(cells, at - 1).raise(limit.steps.step(at - 1).up)
     } else {
         unbounded()
     }
 }
 
 // What the sample after allows: its grade, raised by down of the gap between; the top where there is no such sample.
+// A text apart from the one before, since neighbour, gap and side of the step all differ.
 pub fn ramp_after<G: Raisable, S: Steps>(limit: &Ramp<S>, cells: &[Cell<G>], at: usize) -> G
     ensures { pos (G.Grade.rank result) ≡ after G.Grade.top (S.Steps.steps limit.now.steps) (ranks G.Grade.rank cells.now) at }
 {
-    if at < samples(cells) {
-        from_after(&limit.steps, cells, at)
-    } else {
-        unbounded()
-    }
-}
-
-// The sample before, raised by up of the gap between.
-fn from_before<G: Raisable, S: Steps>(steps: &S, cells: &[Cell<G>], at: usize) -> G
-    requires { at < length cells.now }
-    ensures { pos (G.Grade.rank result) ≡ before G.Grade.top (S.Steps.steps steps.now) (ranks G.Grade.rank cells.now) at }
-{
-    if at > 0 && at <= steps.len() {
-        value(cells, at - 1).raise(steps.step(at - 1).up)
-    } else {
-        unbounded()
-    }
-}
-
-// The sample after, raised by down of the gap between.
-fn from_after<G: Raisable, S: Steps>(steps: &S, cells: &[Cell<G>], at: usize) -> G
-    requires { at < length cells.now }
-    ensures { pos (G.Grade.rank result) ≡ after G.Grade.top (S.Steps.steps steps.now) (ranks G.Grade.rank cells.now) at }
-{
-    if at < steps.len() && at + 1 < samples(cells) {
-        value(cells, at + 1).raise(steps.step(at).down)
+    if at < limit.steps.len() && at + 1 < samples(cells) {
+        value(cells, at + 1).raise(limit.steps.step(at).down)
     } else {
         unbounded()
     }

@@ -1,4 +1,5 @@
-// A row at the spacing h of the samples, known to be sound, and what it allows the samples beside its gap.
+// A row at the spacing h of the samples, known to be sound, and what it allows the samples beside its gap. Each of the two
+// has a text of its own: neighbour, factors and room all differ, and one text would take each of them.
 ghost use Rattle.torque.specs.Rows.{Sound};
 
 use super::reading::{samples, unbounded, value};

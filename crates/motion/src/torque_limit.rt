@@ -16,7 +16,7 @@ use super::spaced_row::SpacedRow;
 use grade::{Cell, Speed, lower};
 use limit::Limit;
 
-#[derive(Drop)]
+#[derive(Debug, PartialEq, Eq, Drop)]
 pub struct Torque<R> {
     pub rows: R,
 }
