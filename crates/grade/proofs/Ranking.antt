@@ -1,7 +1,7 @@
 -- Cells read as ranks.
-use Rattle.std.proofs.Common.{◌≡◌, ℕ, zero, suc, ◌<◌, ◌≤◌, List, [], ◌∷◌, map, length, get_or, refl, ap, ⊎_elim, arith}
+use Rattle.std.proofs.Common.{◌≡◌, ℕ, zero, suc, ◌<◌, ◌≤◌, List, [], ◌∷◌, map, length, refl, ap, ⊎_elim, arith}
 use Rattle.std.proofs.lemmas.Bool.{cases_lt}
-use Rattle.std.proofs.lemmas.List.{get_or-map, get_or_past}
+use Rattle.std.proofs.lemmas.List.{get_or_past}
 use Rattle.grade.specs.declared.cell.Cell.{Cell}
 use Rattle.grade.specs.Profiles.{Profile, Within, AtMost, rank}
 use Rattle.grade.specs.Ranks.{ranked_all, ranks}
@@ -17,10 +17,6 @@ module _ {G : Type 0} (rank_of : G → ℕ) where
   pub values_ranked : (cells : List (Cell G)) → map (λ (c : Cell ℕ). c.value) (ranked_all rank_of cells) ≡ ranks rank_of cells
   values_ranked [] = refl
   values_ranked (c ∷ cs) = ap (λ l. rank_of c.value ∷ l) (values_ranked cs)
-
-  -- the rank at a sample, by the cell that stands there
-  pub rank_at : (cells : List (Cell G)) (i : ℕ) (d : Cell G) → i < length cells → rank (ranks rank_of cells) i ≡ rank_of (get_or cells i d).value
-  rank_at cells i d h = get_or-map (λ c. rank_of c.value) cells i d 0 h
 
 -- of two profiles of one length, past whose ends the rank is 0
 pub at_most_everywhere : (p q : Profile) → length p ≡ length q → AtMost p q → (k : ℕ) → rank p k ≤ rank q k

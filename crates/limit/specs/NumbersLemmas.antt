@@ -1,6 +1,6 @@
 -- Numbers of limits: the smaller of two, and one that stands only where a test is true, with the top elsewhere.
 use Rattle.std.specs.Prelude.{◌≡◌, ℕ, ◌≤◌, Bool, true, false, cond, ◌↔◌, ℤ, pos, negsuc, ◌≤ℤ◌, Some, None, Option, refl}
-use Rattle.std.proofs.Common.{sym, subst, arith}
+use Rattle.std.proofs.Common.{arith}
 use Rattle.std.specs.Int.{int_min}
 use Rattle.std.proofs.lemmas.Int.{ints, clamps}
 use Rattle.std.proofs.lemmas.Bool.{false≢true}

@@ -1,4 +1,3 @@
 pub mod Rates
 pub mod Scanning
 pub mod SpeedLimits
-pub mod Widths

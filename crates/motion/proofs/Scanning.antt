@@ -1,7 +1,7 @@
 -- Evaluating rows: which of them bear on a sample, and how the least is met row by row.
 use Rattle.std.proofs.Common.{◌≡◌, ℕ, zero, suc, ◌+◌, ◌<◌, ◌≤◌, min, ◌&&◌, eqb, ltb, List, [], ◌∷◌, length, drop, ℤ, pos, negsuc, sym, refl, ap, ◌∙◌, arith}
 use Rattle.std.specs.Int.{int_min}
-use Rattle.std.proofs.lemmas.List.{at_drop_more, at_drop_all, get_or-drop, length-drop}
+use Rattle.std.proofs.lemmas.List.{at_drop_more, get_or-drop, length-drop}
 use Rattle.std.proofs.lemmas.Int.{ints, clamps}
 use Rattle.std.proofs.lemmas.Bool.{cond-false, ne_eqb, and_left}
 use Rattle.grade.specs.Profiles.{Profile}
@@ -63,6 +63,3 @@ module _ (h : ℕ) (rows : List Row) (sound : SoundRows h rows) (p : Profile) (i
         let up = sound.rising k (k + j) (omega arith) in_rows in
         ap (allows h p i) (get_or-drop k rows j no_row) ∙ elsewhere h p i (row_at rows (k + j)) (omega arith) (omega arith)) in
         omega (arith, ints, clamps)
-
-  pub rest_none : (k b : ℕ) → int_min (pos b) (rest k) ≡ torque h rows p i → b ≤ speed_top → length rows ≤ k → pos b ≡ torque h rows p i
-  rest_none k b inv m l = let none : rest k ≡ pos speed_top = at_drop_all (least (allows h p i)) rows k l in omega (arith, ints, clamps)

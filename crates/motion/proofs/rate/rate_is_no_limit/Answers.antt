@@ -1,5 +1,8 @@
-use Rattle.motion.proofs.Rates.{falls, breaks_rule, is_no_limit}
+use Rattle.motion.proofs.Rates.{breaks_rule, is_no_limit}
 use Rattle.motion.proofs.rate.rate_is_no_limit.Goals as goal
 
-pub returns : goal.returns
-returns c = record { falls = falls; breaks = breaks_rule; apart = is_no_limit }
+pub returns-clause-breaks : goal.returns-clause-breaks
+returns-clause-breaks c = breaks_rule
+
+pub returns-clause-apart : goal.returns-clause-apart
+returns-clause-apart c = is_no_limit

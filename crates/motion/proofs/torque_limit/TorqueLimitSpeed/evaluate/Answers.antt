@@ -1,7 +1,7 @@
 use Rattle.std.proofs.Common.{arith}
 use Rattle.grade.specs.Ranks.{ranks}
 use Rattle.grade.specs.Ranks.{speed_rank}
-use Rattle.motion.proofs.Scanning.{rest_first, sound_row_lem, rest_more, rest_nothing, rest_past, rest_none}
+use Rattle.motion.proofs.Scanning.{rest_first, sound_row_lem, rest_more, rest_nothing, rest_past}
 use Rattle.motion.proofs.torque_limit.TorqueLimitSpeed.evaluate.Goals as goal
 
 pub loop-k-init : goal.loop-k-init
@@ -36,9 +36,3 @@ loop-k-preserved g c =
     let rows = c.args.self.now.rows in
     rest_more (g.R.Rows.spacing rows) (g.R.Rows.rows rows) (g.R.Rows.sound rows) (ranks speed_rank c.args.cells.now) c.args.at
     c.loop-k.k _ _ (omega arith) c.spacing-h.ensures c.row-row.ensures _ _ _ c.loop-k.invariant c.in_ok-allows.ensures c.lower-least.ensures
-
-pub returns : goal.returns
-returns g c =
-    let rows = c.args.self.now.rows in
-    rest_none (g.R.Rows.spacing rows) (g.R.Rows.rows rows) (g.R.Rows.sound rows) (ranks speed_rank c.args.cells.now) c.args.at
-    c.loop-k.k _ c.loop-k.invariant c.loop-k.least.ok (omega arith)
