@@ -15,7 +15,6 @@ pub struct Row {
     pub hi: i32,
 }
 
-#[tactic(auto, using(crate::proofs::Widths::signed))]
 impl Row {
     // The greatest size of a sound row's numbers.
     pub const SIZE: u32 = 16777216;
@@ -53,7 +52,6 @@ impl Row {
 }
 
 // 2h × n. At |n| ≤ 2^32, as for a difference of two of a row's numbers, it stays within 2^49.
-#[tactic(auto, using(crate::proofs::Widths::signed, crate::proofs::Widths::scaled_small))]
 fn scaled(h: u16, n: i64) -> i64
     requires { unsigned_abs n ≤ 2 ^ 32 }
     ensures value { result ≡ pos (2 * h) *ℤ n }
