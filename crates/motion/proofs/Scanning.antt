@@ -29,7 +29,7 @@ least_past f (suc k) (r ∷ rows) h l =
     let b = least_high f rows in
     omega (arith, ints, clamps)
 
-module _ (h : ℕ) (rows : List Row) (sound : SoundRows h rows) (p : Profile) (i : ℕ) where
+module _ {h : ℕ} {rows : List Row} (sound : SoundRows h rows) (p : Profile) (i : ℕ) where
   -- the least of the rows from k on
   abbrev pub rest : ℕ → ℤ
   rest k = least (allows h p i) (drop k rows)

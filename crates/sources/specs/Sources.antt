@@ -13,9 +13,6 @@ use Rattle.frame.specs.Paths.{Path}
 
 -- ---- the data
 
-abbrev pub no_gap : Gap
-no_gap = record { rise = 0; fall = 0; up = 0; down = 0 }
-
 -- of a gap, rise and fall
 abbrev pub class_step_of : Gap → Step
 class_step_of g = record { up = g.rise; down = g.fall }

@@ -6,7 +6,7 @@ use frame::PathFrame;
 use motion::Offsets;
 
 /// The offset q of each sample of a frame.
-#[derive(Clone, Copy, Debug)]
+#[derive(Clone, Copy, Debug, PartialEq, Eq)]
 pub struct FrameOffsets<'a> {
     pub frame: PathFrame<'a>,
 }

@@ -7,7 +7,7 @@ use frame::PathFrame;
 use motion::{Row, Rows};
 
 /// The torque rows of a frame.
-#[derive(Clone, Copy, Debug)]
+#[derive(Clone, Copy, Debug, PartialEq, Eq)]
 pub struct FrameRows<'a> {
     pub frame: PathFrame<'a>,
 }

@@ -42,7 +42,7 @@ impl GapStep for Speed {
 }
 
 /// How much a make of grade may rise and fall over each gap of a frame.
-#[derive(Clone, Copy, Debug)]
+#[derive(Clone, Copy, Debug, PartialEq, Eq)]
 pub struct FrameSteps<'a, G> {
     pub frame: PathFrame<'a>,
     pub make: PhantomData<G>,

@@ -1,38 +1,32 @@
 use Rattle.std.proofs.Common.{arith}
-use Rattle.grade.specs.Ranks.{ranks}
-use Rattle.grade.specs.Ranks.{speed_rank}
+use Rattle.grade.specs.Ranks.{ranks, speed_rank}
 use Rattle.motion.proofs.Scanning.{rest_first, sound_row_lem, rest_more, rest_nothing, rest_past}
 use Rattle.motion.proofs.torque_limit.TorqueLimitSpeed.evaluate.Goals as goal
 
 pub loop-k-init : goal.loop-k-init
 loop-k-init g c =
-    let rows = c.args.self.now.rows in
-    rest_first (g.R.Rows.spacing rows) (g.R.Rows.rows rows) (g.R.Rows.sound rows) (ranks speed_rank c.args.cells.now) c.args.at
+    rest_first (g.R.Rows.sound c.args.self.now.rows) (ranks speed_rank c.args.cells.now) c.args.at
     c.first_row-k.result _ c.first_row-k.ensures.within c.first_row-k.ensures.before c.unbounded-least.ensures
 
 pub returns-then-row-at : goal.returns-then-row-at
 returns-then-row-at g c =
-    let rows = c.args.self.now.rows in
-    rest_past (g.R.Rows.spacing rows) (g.R.Rows.rows rows) (g.R.Rows.sound rows) (ranks speed_rank c.args.cells.now) c.args.at
+    rest_past (g.R.Rows.sound c.args.self.now.rows) (ranks speed_rank c.args.cells.now) c.args.at
     c.loop-k.k _ _ (omega arith) c.spacing-h.ensures c.row-row.ensures _ c.loop-k.invariant c.loop-k.least.ok c.if-row-at.true
 
 pub invariant_of-spaced : goal.invariant_of-spaced
 invariant_of-spaced g c =
-    let rows = c.args.self.now.rows in
     record {
-      sound = sound_row_lem (g.R.Rows.spacing rows) (g.R.Rows.rows rows) (g.R.Rows.sound rows) (ranks speed_rank c.args.cells.now) c.args.at
+      sound = sound_row_lem (g.R.Rows.sound c.args.self.now.rows) (ranks speed_rank c.args.cells.now) c.args.at
           c.loop-k.k _ _ (omega arith) c.spacing-h.ensures c.row-row.ensures;
     }
 
 pub returns-in_err-allows : goal.returns-in_err-allows
 returns-in_err-allows g c =
-    let rows = c.args.self.now.rows in
     rw c.from_residual.ensures
-    (rest_nothing (g.R.Rows.spacing rows) (g.R.Rows.rows rows) (g.R.Rows.sound rows) (ranks speed_rank c.args.cells.now) c.args.at
+    (rest_nothing (g.R.Rows.sound c.args.self.now.rows) (ranks speed_rank c.args.cells.now) c.args.at
     c.loop-k.k _ _ (omega arith) c.spacing-h.ensures c.row-row.ensures _ c.loop-k.invariant c.in_err-allows.ensures)
 
 pub loop-k-preserved : goal.loop-k-preserved
 loop-k-preserved g c =
-    let rows = c.args.self.now.rows in
-    rest_more (g.R.Rows.spacing rows) (g.R.Rows.rows rows) (g.R.Rows.sound rows) (ranks speed_rank c.args.cells.now) c.args.at
+    rest_more (g.R.Rows.sound c.args.self.now.rows) (ranks speed_rank c.args.cells.now) c.args.at
     c.loop-k.k _ _ (omega arith) c.spacing-h.ensures c.row-row.ensures _ _ _ c.loop-k.invariant c.in_ok-allows.ensures c.lower-least.ensures
