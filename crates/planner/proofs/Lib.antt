@@ -1,5 +1,6 @@
-pub mod Caps
+pub mod Begun
 pub mod Bounds
+pub mod Caps
 pub mod Fills
-pub mod Plans
 pub mod Makes
+pub mod Plans

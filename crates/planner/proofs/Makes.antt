@@ -18,9 +18,10 @@ use Rattle.job.specs.Making.{start_of, Made}
 use Rattle.job.proofs.Acting.{pinned}
 use Rattle.job.proofs.Grading.{class_is, speed_is}
 use Rattle.frame.specs.Paths.{Path}
-use Rattle.planner.specs.Starts.{class_sheet_of, speed_sheet_of, start_from}
-use Rattle.planner.specs.Making.{Stands, MadeAs}
-use Rattle.planner.proofs.Plans.{Filled, start_is, past_classes, past_speeds}
+use Rattle.planner.specs.Starts.{class_sheet_of, speed_sheet_of, start_from, Filled}
+use Rattle.planner.specs.Making.{MadeAs}
+use Rattle.planner.specs.Standing.{Stands}
+use Rattle.planner.proofs.Begun.{start_is, past_classes, past_speeds}
 
 -- a job that the calls lead to stands as they leave it
 module _ (n : ℕ) (s : Start) (a b : Number) (calls : List Call) (cs cs' : List (Cell Class)) (ss ss' : List (Cell Speed)) (j : Job) (samples_are : j.samples.count ≡ n) (led : Led a b s calls (held j cs' ss')) where

@@ -1,4 +1,5 @@
 pub mod Asking
 pub mod Starts
+pub mod Standing
 pub mod Planning
 pub mod Making

@@ -1,42 +1,31 @@
 -- What a plan promises from a frame's bytes on: a job made of the caps and floors that the path gives, and a sequence of
 -- calls on it.
-use Rattle.std.specs.Prelude.{◌≡◌, ℕ, List, ◌++◌, length, take, drop, Ok, Err, Result}
+use Rattle.std.specs.Prelude.{◌≡◌, ℕ, List, ◌++◌, length, drop, Ok, Err, Result}
 use Rattle.grade.specs.declared.cell.Cell.{Cell}
 use Rattle.grade.specs.declared.class.Class.{Class}
 use Rattle.grade.specs.declared.speed.Speed.{Speed}
 use Rattle.limit.specs.Numbers.{Number}
-use Rattle.runs.specs.declared.call.Answer.{Answer}
+use Rattle.runs.specs.Answers.{Answer}
 use Rattle.runs.specs.declared.call.Call.{Call}
 use Rattle.runs.specs.Making.{Start, made}
-use Rattle.runs.specs.Runs.{answers, after}
+use Rattle.runs.specs.Runs.{answers}
 use Rattle.runs.specs.Law.{RunLaw}
 use Rattle.job.specs.declared.job.Job.{Job}
-use Rattle.job.specs.Grades.{class_of, speed_of, cells_of}
 use Rattle.job.specs.Whole.{setting}
-use Rattle.job.specs.Holding.{held, whole_of, Led}
+use Rattle.job.specs.Holding.{held, whole_of}
 use Rattle.frame.specs.Views.{path_of}
 use Rattle.planner.specs.declared.fault.MakeFault.{MakeFault}
 use Rattle.planner.specs.Asking.{asked}
+use Rattle.planner.specs.Standing.{Stands}
 use Rattle.planner.specs.Starts.{start_from}
 
 -- under limits of these numbers, the job j of n samples made from the start s, after the calls, and the memory as it ends
 pub record PlannedAs (n : ℕ) (s : Start) (a b : Number) (calls : List Call) (classes classes' : List (Cell Class)) (speeds speeds' : List (Cell Speed)) (old new : List Answer) (j : Job) : Type 0 where
-  pub samples_are : j.samples.count ≡ n
-  -- the stage, the sweep and the sheets as ranks
-  pub job : whole_of (held j classes' speeds') ≡ after (setting n a b) s calls
-  -- the cells of the samples, and those past them
-  pub classes_are : take n classes' ≡ cells_of class_of (after (setting n a b) s calls).sheets.classes
-  pub speeds_are : take n speeds' ≡ cells_of speed_of (after (setting n a b) s calls).sheets.speeds
-  pub past_classes : drop n classes' ≡ drop n classes
-  pub past_speeds : drop n speeds' ≡ drop n speeds
-  pub long_classes : length classes' ≡ length classes
-  pub long_speeds : length speeds' ≡ length speeds
+  pub stands : Stands n s a b calls classes classes' speeds speeds' j
   -- the answer of every call
   pub answered : new ≡ answers (setting n a b) calls (made (setting n a b) s) ++ drop (length calls) old
   -- the law, whole
   pub law : RunLaw (setting n a b) s calls (whole_of (held j classes' speeds'))
-  -- and calls that follow go on from here
-  pub leads : Led a b s calls (held j classes' speeds')
 
 -- of an accepted frame, with the caps and floors that its path gives
 pub record PlannedFrom (bs : List ℕ) (a b : Number) (calls : List Call) (classes classes' : List (Cell Class)) (speeds speeds' : List (Cell Speed)) (old new : List Answer) (j : Job) : Type 0 where

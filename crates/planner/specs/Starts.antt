@@ -1,7 +1,8 @@
 -- The caps and floors that a path's records give.
-use Rattle.std.specs.Prelude.{◌≡◌, ℕ, zero, suc, ◌*◌, ◌^◌, ◌≤◌, min, Bool, cond, List, map, pos, nat_le, slice_index_or}
+use Rattle.std.specs.Prelude.{◌≡◌, ℕ, zero, suc, ◌*◌, ◌^◌, ◌≤◌, min, Bool, cond, List, map, length, take, drop, pos, nat_le, slice_index_or}
 use Rattle.grade.specs.declared.cell.Cell.{Cell}
 use Rattle.grade.specs.Profiles.{Profile}
+use Rattle.grade.specs.Ranks.{ranked_all}
 use Rattle.grade.specs.Tops.{class_top, speed_top}
 use Rattle.caps.specs.Floats.{bits_of, significand, shift}
 use Rattle.record.specs.declared.sample.Sample.{Sample}
@@ -67,6 +68,12 @@ pub record SampleWithin (s : Sample) : Type 0 where
   pub class_floor_fits : s.class_floor ≤ class_top
   pub speed_floor_fits : s.speed_floor ≤ speed_top
   pub fixed : (n : ℕ) → s.clause ≡ Fixed n → n ≤ speed_top
+
+-- memory filled from a sheet: its first cells are the sheet's, the rest as it was
+pub record Filled {G : Type 0} (rank : G → ℕ) (sheet : List (Cell ℕ)) (cells cells' : List (Cell G)) : Type 0 where
+  pub front : ranked_all rank (take (length sheet) cells') ≡ sheet
+  pub past : drop (length sheet) cells' ≡ drop (length sheet) cells
+  pub long : length cells' ≡ length cells
 
 -- ---- the start that a path gives
 

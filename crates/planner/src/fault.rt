@@ -1,11 +1,13 @@
 // Why a making is refused: the first question that says no, of the frame or of the memory.
 ghost use Rattle.std.specs.Prelude.{◌≡◌};
 ghost use Rattle.planner.specs.declared.fault.MakeFault.TheVariants.{Frame};
-ghost use Rattle.planner.specs.Asking.{make_refusal};
+ghost use Rattle.planner.specs.Asking.{make_refusal, remembered};
 
 use frame::{FrameFault, Layer, Refusal};
+use std::error::Error;
+use std::fmt;
 
-#[derive(Clone, Copy)]
+#[derive(Clone, Copy, Debug, PartialEq, Eq)]
 pub enum MakeFault {
     // The reader refuses the bytes.
     Frame(FrameFault),
@@ -22,7 +24,21 @@ impl From<FrameFault> for MakeFault {
     }
 }
 
-// The numbers of the questions about memory.
+// What the question that said no asks.
+impl fmt::Display for MakeFault {
+    fn fmt<W: fmt::Write>(&self, f: &mut fmt::Formatter<W>) -> fmt::Result {
+        match self {
+            MakeFault::Frame(fault) => fault.fmt(f),
+            MakeFault::NoClassMemory | MakeFault::NoSpeedMemory => {
+                write!(f, "the memory must hold every sample")
+            }
+        }
+    }
+}
+
+impl Error for MakeFault {}
+
+// The numbers of the questions about memory, as the format counts questions.
 const CLASS_MEMORY: u8 = 50;
 
 const SPEED_MEMORY: u8 = 51;
@@ -50,5 +66,3 @@ impl MakeFault {
         }
     }
 }
-
-ghost use Rattle.planner.specs.Asking.{remembered};

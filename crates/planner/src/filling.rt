@@ -1,24 +1,19 @@
-// Memory filled with the cells of a source, from its front on.
-ghost use Rattle.std.specs.Prelude.{◌≡◌, ◌<◌, ◌≤◌, length, take, drop, slice_set};
-ghost use Rattle.grade.specs.Ranks.{ranked_all};
+// Memory filled with the cells of a frame's samples, from its front on.
+ghost use Rattle.std.specs.Prelude.{◌≤◌, length, map};
+ghost use Rattle.frame.specs.Views.{path_of};
+ghost use Rattle.planner.specs.Starts.{Filled};
 
-use super::cells::CellSource;
+use super::cells::FromSample;
+use super::making::samples;
+use frame::PathFrame;
 use grade::{Cell, Grade};
 
-fn put<G: Grade>(cells: &mut [Cell<G>], at: usize, cell: Cell<G>)
-    requires { at < length cells.old }
-    ensures { cells.new ≡ slice_set cells.old at cell }
+pub(crate) fn fill<G: FromSample>(frame: PathFrame<'_>, cells: &mut [Cell<G>])
+    requires { (path_of frame.bytes.now).header.samples ≤ length cells.old }
+    ensures { Filled G.Grade.rank (map (G.FromSample.given (path_of frame.entry.bytes.now).header.lateral) (path_of frame.entry.bytes.now).samples) cells.old cells.new }
 {
-    cells[at] = cell;
-}
-
-pub(crate) fn fill<G: Grade, S: CellSource<G>>(source: &S, cells: &mut [Cell<G>])
-    requires { length (S.CellSource.sheet source.now) ≤ length cells.old }
-    ensures front { ranked_all G.Grade.rank (take (length (S.CellSource.sheet source.now)) cells.new) ≡ S.CellSource.sheet source.now }
-    ensures past { drop (length (S.CellSource.sheet source.now)) cells.new ≡ drop (length (S.CellSource.sheet source.now)) cells.old }
-    ensures long { length cells.new ≡ length cells.old }
-{
-    for at in 0..source.len() {
-        put(cells, at, source.cell(at));
+    let front = &mut cells[..samples(frame).count];
+    for (at, cell) in front.iter_mut().enumerate() {
+        *cell = G::cell_of(frame, at);
     }
 }

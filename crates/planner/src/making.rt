@@ -1,30 +1,23 @@
 // Making a job of a frame: after the yes to the questions, and in one call with them.
 ghost use Rattle.std.specs.Prelude.{◌≡◌, ◌≤◌, length};
-ghost use Rattle.job.specs.Making.{Made};
 ghost use Rattle.frame.specs.Views.{path_of};
 ghost use Rattle.planner.specs.Starts.{start_from};
 ghost use Rattle.planner.specs.Making.{Granted, MadeAs, MadeFrom, MakesFrom};
 
 use super::asking::ask_sizes;
-use super::cells::{CellSource, ClassCells, SpeedCells};
 use super::fault::MakeFault;
 use super::filling::fill;
-use super::planning::samples;
 use frame::PathFrame;
-use grade::{Cell, Class, Sheet, Speed};
+use grade::{Cell, Class, Speed};
 use job::Job;
 use runs::Samples;
 
-// A job over memory whose first cells have their caps and floors.
-fn make_filled(samples: Samples, classes: &mut [Cell<Class>], speeds: &mut [Cell<Speed>]) -> Job
-    requires { (samples.count ≤ length classes.old) × (samples.count ≤ length speeds.old) }
-    ensures { Made samples classes.old classes.new speeds.old speeds.new result }
+// How many samples a frame has.
+pub(crate) fn samples(frame: PathFrame<'_>) -> Samples
+    ensures { result.count ≡ (path_of frame.entry.bytes.now).header.samples }
 {
-    let mut class_sheet = Sheet::new(classes);
-    let mut speed_sheet = Sheet::new(speeds);
-    match Job::make(&mut class_sheet, &mut speed_sheet, samples) {
-        Ok(job) => job,
-        Err(_) => unreachable(),
+    Samples {
+        count: frame.header().samples as usize,
     }
 }
 
@@ -37,9 +30,9 @@ fn make_accepted(
     requires { ((path_of frame.bytes.now).header.samples ≤ length classes.old) × ((path_of frame.bytes.now).header.samples ≤ length speeds.old) }
     ensures { MadeAs (path_of frame.entry.bytes.now).header.samples (start_from (path_of frame.entry.bytes.now)) classes.old classes.new speeds.old speeds.new result }
 {
-    fill(&ClassCells { frame }, classes);
-    fill(&SpeedCells { frame }, speeds);
-    make_filled(samples(frame), classes, speeds)
+    fill(frame, classes);
+    fill(frame, speeds);
+    Job::make(classes, speeds, samples(frame)).unwrap()
 }
 
 /// Makes the job of a frame, after `ask` said yes to it beside these memories. Values begin at the caps; a floor above

@@ -1,10 +1,10 @@
-use Rattle.planner.proofs.Bounds.{no_cap, cap_read}
+use Rattle.std.proofs.Common.{subst}
+use Rattle.frame.specs.Views.{path_of, CapShown}
+use Rattle.planner.proofs.Bounds.{cap_read}
 use Rattle.planner.proofs.cells.cap_at.Goals as goal
-
-pub unreachable-requires : goal.unreachable-requires
-unreachable-requires c = no_cap c.args.frame.bytes.now c.args.frame.sound c.args.at c.requires c.in-None.ensures
 
 pub returns : goal.returns
 returns c =
-    let r = cap_read c.args.frame.bytes.now c.args.frame.sound c.args.at c.requires c.in-Some.cap c.in-Some.ensures in
+    let bs = c.args.frame.bytes.now in
+    let r = cap_read bs c.args.frame.sound c.args.at c.requires c.unwrap.result (subst (CapShown (path_of bs) c.args.at) c.unwrap.ensures c.speed_cap.ensures) in
     record { is = r.0; within = r.1 }

@@ -1,35 +1,32 @@
-use Rattle.std.proofs.Common.{◌≡◌, ℕ, ◌+◌, ◌<◌, List, length, take, drop, refl, ap, ◌∙◌, subst, arith}
-use Rattle.grade.specs.declared.cell.Cell.{Cell}
-use Rattle.std.proofs.lemmas.List.{take_all, drop-set-lt}
-use Rattle.grade.specs.Ranks.{ranked_all}
-use Rattle.planner.proofs.Fills.{filled_more}
+use Rattle.std.proofs.Common.{◌<◌, length, map, refl, ◌∙◌, sym, arith}
+use Rattle.std.proofs.lemmas.List.{length-map, length-take-le, get_or-map}
+use Rattle.frame.specs.Views.{path_of}
+use Rattle.sources.proofs.Counted.{samples_counted}
+use Rattle.planner.specs.Starts.{no_sample_of, no_cell}
+use Rattle.planner.proofs.Fills.{filled_more, filled}
 use Rattle.planner.proofs.filling.fill.Goals as goal
 
 pub loop-at-init : goal.loop-at-init
-loop-at-init g c = (refl, refl)
+loop-at-init g c = refl
 
-pub put-requires : goal.put-requires
-put-requires g c = let n = c.len-at-end.ensures in let l = c.loop-at-test.true in omega arith
+pub cell_of-requires : goal.cell_of-requires
+cell_of-requires g c =
+    let n = samples_counted c.args.frame.bytes.now c.args.frame.sound in
+    omega (arith, c.samples.ensures, length-take-le c.samples.result.count c.args.cells.now (omega (arith, c.samples.ensures, c.requires)))
 
 pub loop-at-preserved : goal.loop-at-preserved
 loop-at-preserved g c =
-    let sheet = g.S.CellSource.sheet c.args.source.now in
-    let n = c.len-at-end.ensures in
-    let l : c.loop-at.at < length c.loop-at.cells = omega arith in
-    let m : c.loop-at.at < length sheet = omega arith in (
-      ap (λ (x : List (Cell g.row.G.Denot)). ranked_all g.G.Grade.rank (take (c.loop-at.at + 1) x)) c.put.ensures
-          ∙ filled_more g.G.Grade.rank c.loop-at.cells sheet c.loop-at.at c.cell.result l m c.loop-at.invariant.0 c.cell.ensures,
-      ap (λ (x : List (Cell g.row.G.Denot)). drop (length sheet) x) c.put.ensures
-          ∙ drop-set-lt (length sheet) c.loop-at.cells c.loop-at.at c.cell.result m ∙ c.loop-at.invariant.1,
-    )
+    let p = path_of c.args.frame.bytes.now in
+    let given = g.G.FromSample.given p.header.lateral in
+    let n = samples_counted c.args.frame.bytes.now c.args.frame.sound in
+    let l : c.loop-at.at < length p.samples = omega (arith, c.samples.ensures, length-take-le c.samples.result.count c.args.cells.now (omega (arith, c.samples.ensures, c.requires))) in
+    filled_more g.G.Grade.rank c.loop-at.front (map given p.samples) c.loop-at.at c.cell_of.result (omega arith) (omega (arith, length-map p.samples given)) c.loop-at.invariant
+    (c.cell_of.ensures ∙ sym (get_or-map given p.samples c.loop-at.at no_sample_of no_cell l))
 
 pub returns : goal.returns
 returns g c =
-    let sheet = g.S.CellSource.sheet c.args.source.now in
-    let n = c.len-at-end.ensures in
-    let z : c.loop-at.at ≡ length sheet = omega arith in
-    record {
-      front = subst (λ (k : ℕ). ranked_all g.G.Grade.rank (take k c.loop-at.cells) ≡ take k sheet) z c.loop-at.invariant.0 ∙ take_all (length sheet) sheet (omega arith);
-      past = c.loop-at.invariant.1;
-      long = c.loop-at.auto.cells;
-    }
+    let p = path_of c.args.frame.bytes.now in
+    let given = g.G.FromSample.given p.header.lateral in
+    let n = samples_counted c.args.frame.bytes.now c.args.frame.sound in
+    filled g.G.Grade.rank (map given p.samples) c.args.cells.now c.loop-at.front c.samples.result.count c.loop-at.at (omega (arith, c.samples.ensures, c.requires)) (omega (arith, c.samples.ensures, length-map p.samples given))
+    c.loop-at.auto.front c.loop-at-test.false c.loop-at.invariant

@@ -1,7 +1,7 @@
 use Rattle.std.proofs.Common.{◌≤◌, sym, subst}
 use Rattle.frame.specs.declared.header.Header.{Header}
 use Rattle.frame.proofs.Accepted.{yes'}
-use Rattle.planner.proofs.planning.samples.Goals as goal
+use Rattle.planner.proofs.making.samples.Goals as goal
 
 pub invariant_of-result : goal.invariant_of-result
 invariant_of-result c =
