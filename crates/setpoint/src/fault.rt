@@ -15,6 +15,7 @@ pub enum SetpointFault {
 }
 
 impl SetpointFault {
+    // The number of the question that said no, as the formats count questions.
     pub fn number(self) -> u8
         ensures { result ≡ question_of self }
     {
