@@ -11,7 +11,7 @@ use Rattle.grade.specs.declared.speed.Speed.{Speed}
 use Rattle.grade.specs.Profiles.{Within}
 use Rattle.grade.specs.Ranks.{class_rank, speed_rank, ranked, ranked_all}
 use Rattle.grade.specs.Tops.{class_top, speed_top}
-use Rattle.motion.specs.Rows.{row_at}
+use Rattle.torque.specs.Rows.{row_at}
 use Rattle.motion.specs.Torques.{allows, least}
 use Rattle.frame.specs.Paths.{Path}
 use Rattle.sources.specs.Sources.{class_steps, speed_steps, rows_of, class_number, speed_number}

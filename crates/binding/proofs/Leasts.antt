@@ -5,8 +5,8 @@ use Rattle.std.specs.Option.{option_or}
 use Rattle.std.proofs.lemmas.Int.{ints, clamps, by_lt_z}
 use Rattle.std.proofs.lemmas.Bool.{cases_Bool, cond-true, eqb-false, ltb-false, false≢true}
 use Rattle.grade.specs.Tops.{speed_top}
-use Rattle.motion.specs.declared.rows.Row.{Row}
-use Rattle.motion.specs.Rows.{row_at}
+use Rattle.torque.specs.declared.row.Row.{Row}
+use Rattle.torque.specs.Rows.{row_at}
 use Rattle.motion.specs.Torques.{least}
 use Rattle.binding.specs.declared.bound.Bound.{Bound}
 use Rattle.binding.specs.declared.bound.Bound.TheVariants.{TorqueRow}

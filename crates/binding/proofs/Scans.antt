@@ -11,8 +11,8 @@ use Rattle.std.proofs.lemmas.Bool.{cases_lt, cond-true, cond-false, lt-ltb}
 use Rattle.grade.specs.Profiles.{Profile}
 use Rattle.grade.specs.Ranks.{rank_in}
 use Rattle.limit.specs.Numbers.{number_of}
-use Rattle.motion.specs.declared.rows.Row.{Row}
-use Rattle.motion.specs.Rows.{row_at}
+use Rattle.torque.specs.declared.row.Row.{Row}
+use Rattle.torque.specs.Rows.{row_at}
 use Rattle.motion.specs.Torques.{allows, row_number, least, torque}
 use Rattle.binding.specs.declared.bound.Bound.{Bound}
 use Rattle.binding.specs.declared.bound.Bound.TheVariants.{TorqueRow}

@@ -4,11 +4,11 @@ use Rattle.std.specs.Int.{int_min}
 use Rattle.grade.specs.Profiles.{Profile}
 use Rattle.grade.specs.Tops.{class_top, speed_top}
 use Rattle.limit.specs.Numbers.{Number}
-use Rattle.motion.specs.declared.rows.Row.{Row}
+use Rattle.torque.specs.declared.row.Row.{Row}
 use Rattle.motion.specs.declared.steps.Step.{Step}
 use Rattle.motion.specs.Averages.{average}
 use Rattle.motion.specs.Ramps.{before_allows, after}
-use Rattle.motion.specs.Rows.{row_at}
+use Rattle.torque.specs.Rows.{row_at}
 use Rattle.motion.specs.Torques.{allows}
 use Rattle.frame.specs.Paths.{Path}
 use Rattle.sources.specs.Sources.{class_steps, speed_steps, offsets_of, rows_of, class_number, speed_number}

@@ -12,8 +12,8 @@ use super::question::{Question, judge};
 use super::ramps::first_ramp;
 use super::rows::first_row;
 use grade::{Cell, Class, Speed};
-use limit::{Limit, Pair};
-use motion::{Average, Offsets, Ramp, Rows, Steps, Torque};
+use limit::Limit;
+use motion::{Offsets, Ramp, Rows, SpeedLimit, Steps};
 
 // The cap, and the two halves of the ramp.
 pub(crate) fn first_in_classes<S: Steps>(
@@ -33,7 +33,7 @@ pub(crate) fn first_in_speeds<S: Steps, Q: Offsets, R: Rows>(
     question: Question,
     cap: Speed,
     granted: Speed,
-    limit: &Pair<Ramp<S>, Pair<Average<Q>, Torque<R>>>,
+    limit: &SpeedLimit<S, Q, R>,
     speeds: &[Cell<Speed>],
     at: usize,
 ) -> Option<Found>

@@ -1,7 +1,7 @@
 // The first torque row that a question is answered yes at.
 ghost use Rattle.std.specs.Prelude.{◌≡◌, ℕ, length, ℤ};
 ghost use Rattle.grade.specs.Ranks.{ranks, speed_rank};
-ghost use Rattle.motion.specs.Rows.{row_at};
+ghost use Rattle.torque.specs.Rows.{row_at};
 ghost use Rattle.motion.specs.Torques.{allows};
 ghost use Rattle.binding.specs.declared.bound.Bound.{Bound};
 ghost use Rattle.binding.specs.declared.bound.Bound.TheVariants.{TorqueRow};

@@ -1,7 +1,7 @@
 -- What limits allow in small cases, as one statement.
 use Rattle.std.specs.Prelude.{◌≡◌, List, [], ◌∷◌, ℤ, pos, negsuc}
 use Rattle.grade.specs.Tops.{class_top}
-use Rattle.motion.specs.declared.rows.Row.{Row}
+use Rattle.torque.specs.declared.row.Row.{Row}
 use Rattle.motion.specs.declared.steps.Step.{Step}
 use Rattle.motion.specs.Averages.{average}
 use Rattle.motion.specs.Ramps.{ramp}
