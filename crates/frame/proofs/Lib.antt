@@ -2,6 +2,8 @@ pub mod Asking
 pub mod Puts
 pub mod Whole
 pub mod Accepted
+pub mod Counts
+pub mod Nth
 pub mod Runs
 pub mod Again
 pub mod Shown

@@ -5,3 +5,4 @@ pub mod Views
 pub mod Writes
 pub mod Refusals
 pub mod Rewrites
+pub mod Eaches

@@ -2,6 +2,7 @@
 
 mod accessing;
 mod body;
+mod each;
 mod fault;
 mod gaps;
 mod header;
@@ -18,6 +19,7 @@ mod view;
 mod writing;
 
 pub use body::Body;
+pub use each::{Each, PathRecord};
 pub use fault::FrameFault;
 pub use header::Header;
 pub use reading::read;

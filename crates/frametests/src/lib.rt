@@ -1,4 +1,5 @@
-// Tests of the frame reader and the caps on examples: every refusal at two places, clauses at their extremes, exact caps.
+// Tests of the frame reader and the caps on examples: every refusal at two places, clauses at their extremes, exact caps,
+// the records of an accepted frame in order, and faults in words.
 #![tactic(auto)]
 
 #[cfg(test)]
@@ -7,3 +8,5 @@ mod building;
 mod clause_caps;
 #[cfg(test)]
 mod refusals;
+#[cfg(test)]
+mod showing;
