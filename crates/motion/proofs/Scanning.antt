@@ -1,23 +1,20 @@
 -- Evaluating rows: which of them bear on a sample, and how the least is met row by row.
-use Rattle.std.proofs.Common.{◌≡◌, ℕ, zero, suc, ◌+◌, ◌<◌, ◌≤◌, min, ◌&&◌, eqb, ltb, List, [], ◌∷◌, length, drop, ℤ, pos, negsuc, sym, refl, ap, ◌∙◌, arith}
+use Rattle.std.proofs.Common.{◌≡◌, ℕ, zero, suc, ◌+◌, ◌<◌, ◌≤◌, min, List, [], ◌∷◌, length, drop, ℤ, pos, negsuc, sym, refl, ap, ◌∙◌, arith}
 use Rattle.std.specs.Int.{int_min}
 use Rattle.std.proofs.lemmas.List.{at_drop_more, get_or-drop, length-drop}
 use Rattle.std.proofs.lemmas.Int.{ints, clamps}
-use Rattle.std.proofs.lemmas.Bool.{cond-false, ne_eqb, and_left}
+use Rattle.std.proofs.lemmas.Bool.Decides.{nat_tests}
 use Rattle.grade.specs.Profiles.{Profile}
 use Rattle.grade.specs.Tops.{speed_top}
 use Rattle.torque.specs.declared.row.Row.{Row}
 use Rattle.torque.specs.Rows.{row_at, no_row, Sound, SoundRows}
-use Rattle.motion.specs.Torques.{allows_after, allows_before, allows, least, torque}
+use Rattle.motion.specs.Torques.{allows, least, torque}
 use Rattle.motion.specs.TorquesLemmas.{least_low, least_high, least_none, allows_low}
 
 module _ (h : ℕ) (p : Profile) (i : ℕ) (r : Row) where
   -- a row at neither gap beside the sample bounds nothing there
   elsewhere : (r.gap + 1 ≡ i → ⊥) → (r.gap ≡ i → ⊥) → allows h p i r ≡ pos speed_top
-  elsewhere m n =
-      let a : allows_after h p i r ≡ pos speed_top = cond-false (eqb (r.gap + 1) i && ltb i (length p)) _ _ (and_left _ _ (ne_eqb (r.gap + 1) i m)) in
-      let b : allows_before h p i r ≡ pos speed_top = cond-false (eqb r.gap i && ltb (i + 1) (length p)) _ _ (and_left _ _ (ne_eqb r.gap i n)) in
-      omega (arith, ints, clamps)
+  elsewhere m n = grind (arith, ints, clamps, nat_tests)
 
 -- rows at the front that bound nothing are passed over
 least_past : (f : Row → ℤ) (k : ℕ) (rows : List Row) → ((j : ℕ) → j < k → f (row_at rows j) ≡ pos speed_top) → k ≤ length rows → least f (drop k rows) ≡ least f rows

@@ -1,28 +1,29 @@
 -- An average keeps the rule, and is kept exactly by the profiles that are averaged.
 use Rattle.std.specs.Prelude.{◌≡◌, ℕ, ◌+◌, ◌-◌, ◌<◌, ◌≤◌, Bool, ◌&&◌, ◌↔◌, List, length, ℤ, pos, negsuc, ◌≤ℤ◌, nat_lt}
 use Rattle.std.proofs.Common.{arith}
-use Rattle.std.proofs.lemmas.Int.{ints}
-use Rattle.std.proofs.lemmas.Bool.{cond-false, le-ltb, lt-ltb, ltb-true, and_parts, and_from, and_left, and_right}
+use Rattle.std.proofs.lemmas.Int.{ints, clamps}
+use Rattle.std.proofs.lemmas.Bool.Decides.{nat_tests}
+use Rattle.std.proofs.lemmas.Bool.{lt-ltb, ltb-true, and_parts, and_from}
 use Rattle.grade.specs.Profiles.{Profile, rank}
 use Rattle.limit.specs.Numbers.{KeptExactly}
 use Rattle.grade.specs.Tops.{speed_top}
 use Rattle.motion.specs.Floors.{floored}
 use Rattle.motion.specs.Averages.{around, average, WithinAverage, WithinAverageAt}
-use Rattle.motion.specs.FloorsLemmas.{floored_low, floored_high, floored_mono, under_floored}
-use Rattle.limit.specs.NumbersLemmas.{where_low, where_high, where_mono, under_where}
+use Rattle.motion.specs.FloorsLemmas.{floored_high, floored_mono, under_floored}
+use Rattle.limit.specs.NumbersLemmas.{where_high, where_mono, under_where}
 
 module _ (qs : List ℤ) where
   abbrev inner : Profile → ℕ → Bool
   inner p i = nat_lt 0 i && (nat_lt (i + 1) (length p) && nat_lt i (length qs))
 
   pub average_low : (p : Profile) (i : ℕ) → negsuc 0 ≤ℤ average qs p i
-  average_low p i = where_low (inner p i) _ speed_top (floored_low 2 (around qs p i))
+  average_low p i = grind (arith, ints, clamps, nat_tests)
 
   pub average_high : (p : Profile) (i : ℕ) → average qs p i ≤ℤ pos speed_top
   average_high p i = where_high (inner p i) _ speed_top (floored_high 2 (around qs p i))
 
   pub average_outside : (p : Profile) (i : ℕ) → length p ≤ i → average qs p i ≡ pos speed_top
-  average_outside p i h = cond-false (inner p i) _ _ (and_right _ _ (and_left _ _ (le-ltb (i + 1) (length p) (omega arith))))
+  average_outside p i h = grind (arith, ints, clamps, nat_tests)
 
   pub average_mono : (p q : Profile) → length p ≡ length q → ((k : ℕ) → rank p k ≤ rank q k) → (i : ℕ) → average qs p i ≤ℤ average qs q i
   average_mono p q len le i =

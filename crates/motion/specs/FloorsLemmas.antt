@@ -1,19 +1,15 @@
 -- The flooring leaf: a sample is at speed_top the floor exactly when it fits.
 use Rattle.std.specs.Prelude.{◌≡◌, ℕ, zero, suc, ◌*◌, ◌/◌, ◌<◌, ◌≤◌, min, false, ◌↔◌, ℤ, pos, negsuc, ◌≤ℤ◌, int_lt, unsigned_abs}
 use Rattle.std.proofs.Common.{ap, true≢false, arith, mul_comm, le-div_iff_mul-le}
-use Rattle.std.proofs.Math.Nat.{div-zero}
+use Rattle.std.proofs.Math.Nat.{div-zero, div-mul-le_self}
+use Rattle.std.proofs.lemmas.Nat.{le-div}
 use Rattle.std.proofs.lemmas.Int.{ints}
 use Rattle.grade.specs.Tops.{speed_top}
 use Rattle.motion.specs.Floors.{floored}
 
 quotient_mono : (f m n : ℕ) → m ≤ n → m / f ≤ n / f
 quotient_mono zero m n h = omega (arith, div-zero m)
-quotient_mono (suc f) m n h =
-    let F : 0 < suc f = omega arith in
-    let a : m / suc f ≤ m / suc f = omega arith in
-    let b = (le-div_iff_mul-le F).0 a in
-    let c : m / suc f * suc f ≤ n = omega arith in
-    (le-div_iff_mul-le F).1 c
+quotient_mono (suc f) m n h = le-div (m / suc f) n (suc f) (omega arith) (omega (arith, div-mul-le_self m (suc f)))
 
 -- how the leaf computes it
 pub floored_is : (f g : ℕ) (n : ℤ) → int_lt n (pos 0) ≡ false → g ≡ min (unsigned_abs n / f) speed_top → pos g ≡ floored f n

@@ -1,8 +1,9 @@
 -- Products of integers, over their parts: z is up z − down z.
 use Rattle.std.specs.Prelude.{◌≡◌, ℕ, ◌+◌, ◌*◌, ℤ, ◌+ℤ◌, ◌*ℤ◌, neg_ℤ}
 use Rattle.std.proofs.Common.{ap, sym, ◌∙◌, arith, mul-add, add-mul, mul_assoc}
-use borrow.Author.Differences.{up, down, same_in, sum_is_lem, neg_is, product_is}
+use borrow.Author.Differences.{up, down, same_in, sum_is_lem, product_is}
 use Rattle.std.proofs.Math.IntN.{*ℤ_comm}
+use Rattle.std.proofs.lemmas.Int.{ints}
 
 spread : (k a b c : ℕ) → k * (a + b + c) ≡ k * a + k * b + k * c
 spread k a b c = mul-add k (a + b) c ∙ ap (λ (n : ℕ). n + k * c) (mul-add k a b)
@@ -14,16 +15,13 @@ mul-sum a b c = same_in _ _ (omega (arith, product_is a (b +ℤ c), product_is a
     by k = sym (spread k (up (b +ℤ c)) (down b) (down c)) ∙ ap (λ (n : ℕ). k * n) (sum_is_lem b c) ∙ spread k (down (b +ℤ c)) (up b) (up c)
 
 pub mul-neg : (a b : ℤ) → a *ℤ neg_ℤ b ≡ neg_ℤ (a *ℤ b)
-mul-neg a b = same_in _ _ (omega (arith, product_is a (neg_ℤ b), product_is a b, neg_is (a *ℤ b), by (up a), by (down a)))
-  where
-    by : (k : ℕ) → (k * up (neg_ℤ b) ≡ k * down b) × (k * down (neg_ℤ b) ≡ k * up b)
-    by k = (ap (λ (n : ℕ). k * n) (neg_is b).0, ap (λ (n : ℕ). k * n) (neg_is b).1)
+mul-neg a b = grind (arith, ints)
 
 pub sum-mul : (a b c : ℤ) → (a +ℤ b) *ℤ c ≡ a *ℤ c +ℤ b *ℤ c
 sum-mul a b c = *ℤ_comm (a +ℤ b) c ∙ mul-sum c a b ∙ ap (λ (z : ℤ). z +ℤ c *ℤ b) (*ℤ_comm c a) ∙ ap (λ (z : ℤ). a *ℤ c +ℤ z) (*ℤ_comm c b)
 
 pub neg-mul : (a b : ℤ) → neg_ℤ a *ℤ b ≡ neg_ℤ (a *ℤ b)
-neg-mul a b = *ℤ_comm (neg_ℤ a) b ∙ mul-neg b a ∙ ap neg_ℤ (*ℤ_comm b a)
+neg-mul a b = grind (arith, ints)
 
 pub mul-mul : (a b c : ℤ) → (a *ℤ b) *ℤ c ≡ a *ℤ (b *ℤ c)
 mul-mul a b c = same_in _ _ (omega (arith, product_is (a *ℤ b) c, product_is a (b *ℤ c), left (up c), left (down c), right (up a), right (down a)))

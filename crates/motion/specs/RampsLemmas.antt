@@ -1,28 +1,25 @@
 -- A ramp keeps the rule, and is kept exactly by the profiles that are in step.
-use Rattle.std.specs.Prelude.{◌≡◌, ℕ, ◌+◌, ◌-◌, ◌<◌, ◌≤◌, min, ◌&&◌, ltb, ◌↔◌, List, length, pos, negsuc, ◌≤ℤ◌, nat_le, nat_lt, slice_index_or}
+use Rattle.std.specs.Prelude.{◌≡◌, ℕ, ◌+◌, ◌-◌, ◌<◌, ◌≤◌, ◌&&◌, ltb, ◌↔◌, List, length, pos, negsuc, ◌≤ℤ◌, nat_le, nat_lt, slice_index_or}
 use Rattle.std.proofs.Common.{ap, arith}
 use Rattle.std.specs.Int.{int_min}
-use Rattle.std.proofs.lemmas.Int.{ints}
-use Rattle.std.proofs.lemmas.Bool.{cond-false, le-ltb, lt-ltb, le-leb, ltb-true, leb-true, and_parts, and_from}
+use Rattle.std.proofs.lemmas.Int.{ints, clamps}
+use Rattle.std.proofs.lemmas.Bool.Decides.{nat_tests}
+use Rattle.std.proofs.lemmas.Bool.{lt-ltb, ltb-true}
 use Rattle.grade.specs.Profiles.{Profile, rank}
 use Rattle.motion.specs.declared.steps.Step.{Step}
 use Rattle.limit.specs.Numbers.{Keeps, KeptExactly}
 use Rattle.motion.specs.Ramps.{no_step, before, after, ramp, WithinSteps, WithinStepsAt}
-use Rattle.limit.specs.NumbersLemmas.{min_mono, min_low, min_high, under_min, where_low, where_high, where_mono, under_where}
+use Rattle.limit.specs.NumbersLemmas.{min_mono, under_min, where_mono, under_where}
 
 module _ (top : ℕ) (steps : List Step) where
   pub ramp_low : (p : Profile) (i : ℕ) → negsuc 0 ≤ℤ ramp top steps p i
-  ramp_low p i =
-      where_low (nat_lt i (length p)) _ top (min_low _ _ _
-      (where_low (nat_lt 0 i && nat_le i (length steps)) _ top (omega (arith, ints)))
-      (where_low (nat_lt i (length steps) && nat_lt (i + 1) (length p)) _ top (omega (arith, ints))))
+  ramp_low p i = grind (arith, ints, clamps, nat_tests)
 
   pub ramp_high : (p : Profile) (i : ℕ) → ramp top steps p i ≤ℤ pos top
-  ramp_high p i =
-      where_high (nat_lt i (length p)) _ top (min_high _ _ _ (where_high (nat_lt 0 i && nat_le i (length steps)) _ top (omega (arith, ints))))
+  ramp_high p i = grind (arith, ints, clamps, nat_tests)
 
   pub ramp_outside : (p : Profile) (i : ℕ) → length p ≤ i → ramp top steps p i ≡ pos top
-  ramp_outside p i h = cond-false (nat_lt i (length p)) _ _ (le-ltb i (length p) h)
+  ramp_outside p i h = grind (arith, ints, clamps, nat_tests)
 
   module _ (p q : Profile) (len : length p ≡ length q) (le : (k : ℕ) → rank p k ≤ rank q k) (i : ℕ) where
     before_mono : before top steps p i ≤ℤ before top steps q i
@@ -40,18 +37,10 @@ module _ (top : ℕ) (steps : List Step) where
 
   module _ (p : Profile) where
     at_before : (i x : ℕ) → x ≤ top → (pos x ≤ℤ before top steps p i) ↔ (0 < i → i ≤ length steps → x ≤ rank p (i - 1) + (slice_index_or steps (i - 1) no_step).up)
-    at_before i x l =
-        let u = under_where (nat_lt 0 i && nat_le i (length steps)) (pos (min (rank p (i - 1) + (slice_index_or steps (i - 1) no_step).up) top)) top x l in (
-          (λ h a b. omega (arith, ints, u.0 h (and_from _ _ (lt-ltb 0 i a) (le-leb i (length steps) b)))),
-          λ h. u.1 (λ e. let t = and_parts (nat_lt 0 i) (nat_le i (length steps)) e in omega (arith, ints, h (ltb-true 0 i t.0) (leb-true i (length steps) t.1))),
-        )
+    at_before i x l = grind (arith, ints, clamps, nat_tests)
 
     at_after : (i x : ℕ) → x ≤ top → (pos x ≤ℤ after top steps p i) ↔ (i < length steps → i + 1 < length p → x ≤ rank p (i + 1) + (slice_index_or steps i no_step).down)
-    at_after i x l =
-        let u = under_where (nat_lt i (length steps) && nat_lt (i + 1) (length p)) (pos (min (rank p (i + 1) + (slice_index_or steps i no_step).down) top)) top x l in (
-          (λ h a b. omega (arith, ints, u.0 h (and_from _ _ (lt-ltb i (length steps) a) (lt-ltb (i + 1) (length p) b)))),
-          λ h. u.1 (λ e. let t = and_parts (nat_lt i (length steps)) (nat_lt (i + 1) (length p)) e in omega (arith, ints, h (ltb-true i (length steps) t.0) (ltb-true (i + 1) (length p) t.1))),
-        )
+    at_after i x l = grind (arith, ints, clamps, nat_tests)
 
     -- a rank is at most the number exactly when it keeps the steps there
     pub under_ramp : (i x : ℕ) → x ≤ top → (pos x ≤ℤ ramp top steps p i) ↔ WithinStepsAt steps p i x

@@ -2,7 +2,8 @@
 use Rattle.std.specs.Prelude.{◌≡◌, ℕ, zero, suc, ◌+◌, ◌-◌, ◌*◌, ◌<◌, ◌≤◌, Bool, ◌&&◌, ◌↔◌, List, [], ◌∷◌, length, ℤ, pos, negsuc, ◌+ℤ◌, ◌≤ℤ◌, ◌==◌, nat_lt, refl}
 use Rattle.std.proofs.Common.{subst, arith, mul-le-mul_left}
 use Rattle.std.proofs.lemmas.Int.{ints, clamps}
-use Rattle.std.proofs.lemmas.Bool.{cond-false, le-ltb, lt-ltb, ltb-true, eq-eqb, eqb-true, and_parts, and_from, and_right}
+use Rattle.std.proofs.lemmas.Bool.Decides.{nat_tests}
+use Rattle.std.proofs.lemmas.Bool.{lt-ltb, ltb-true, eq-eqb, eqb-true, and_parts, and_from}
 use Rattle.grade.specs.Profiles.{Profile, rank}
 use Rattle.grade.specs.Tops.{speed_top}
 use Rattle.torque.specs.declared.row.Row.{Row}
@@ -68,10 +69,7 @@ module _ (h : ℕ) where
   allows_low p i r = min_low _ _ _ (where_low (is_after p i r) _ speed_top (floored_low _ _)) (where_low (is_before p i r) _ speed_top (floored_low _ _))
 
   allows_outside : (p : Profile) (i : ℕ) → length p ≤ i → (r : Row) → allows h p i r ≡ pos speed_top
-  allows_outside p i l r =
-      let a : allows_after h p i r ≡ pos speed_top = cond-false (is_after p i r) _ _ (and_right _ _ (le-ltb i (length p) l)) in
-      let b : allows_before h p i r ≡ pos speed_top = cond-false (is_before p i r) _ _ (and_right _ _ (le-ltb (i + 1) (length p) (omega arith))) in
-      omega (arith, ints, clamps)
+  allows_outside p i l r = grind (arith, ints, clamps, nat_tests)
 
   allows_mono : (p q : Profile) → length p ≡ length q → ((k : ℕ) → rank p k ≤ rank q k) → (i : ℕ) (r : Row) → allows h p i r ≤ℤ allows h q i r
   allows_mono p q len le i r =

@@ -1,8 +1,8 @@
 // How much a profile may rise and fall from sample to sample, for every raisable grade.
-ghost use Rattle.std.specs.Prelude.{◌≡◌, ◌<◌, length, pos};
+ghost use Rattle.std.specs.Prelude.{◌≡◌, pos};
 ghost use Rattle.grade.specs.Ranks.{ranks};
 ghost use Rattle.limit.specs.Numbers.{KeptExactly, Greatest};
-ghost use Rattle.motion.specs.Ramps.{before, before_allows, after, ramp, WithinSteps, WithinStepsAt};
+ghost use Rattle.motion.specs.Ramps.{before_allows, after, ramp, WithinSteps, WithinStepsAt};
 ghost use Rattle.motion.specs.RampsLemmas.{ramp_low, ramp_high, ramp_outside, ramp_mono};
 ghost use Rattle.grade.proofs.Ranking.{at_most_everywhere};
 

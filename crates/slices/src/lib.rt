@@ -2,13 +2,12 @@
 #![tactic(auto)]
 
 mod offsets;
-mod row_slice;
 mod rows;
 mod speeds;
 mod steps;
 
 pub use offsets::OffsetSlice;
-pub use row_slice::RowSlice;
+pub use rows::RowSlice;
 pub use speeds::{speed_allowed, speed_kept_exactly};
 pub use steps::StepSlice;
 pub use torque::{are_sound, is_sound};

@@ -1,8 +1,16 @@
-// A slice of rows as a source.
-ghost use Rattle.torque.specs.Soundness.{are_sound_lem};
+// Rows of torque in a slice.
+ghost use Rattle.std.specs.Prelude.{◌≡◌, true};
+ghost use Rattle.torque.specs.Soundness.{sound_rows, are_sound_lem};
 
-use super::row_slice::RowSlice;
 use motion::{Row, Rows};
+
+// Rows at spacing h, known to be sound: `are_sound` asks for that first.
+#[derive(Clone, Copy, Debug, PartialEq, Eq)]
+pub struct RowSlice<'a> {
+    pub h: u16,
+    pub rows: &'a [Row],
+    ghost sound: { sound_rows h rows.now ≡ true },
+}
 
 impl<'a> Rows for RowSlice<'a> {
     ghost spacing = { λ s. s.h };

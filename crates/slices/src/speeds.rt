@@ -6,7 +6,7 @@ ghost use Rattle.limit.specs.Numbers.{number_of, KeptExactly};
 ghost use Rattle.motion.specs.SpeedLimits.{speed_limit_number, WithinSpeedLimit};
 
 use super::offsets::OffsetSlice;
-use super::row_slice::RowSlice;
+use super::rows::RowSlice;
 use super::steps::StepSlice;
 use grade::{Cell, Speed};
 use limit::Limit;
