@@ -1,7 +1,8 @@
 // The calls on a job, with its sheets beside it.
 //
 // Each call asks its questions first, the memory's before its own; refused, it leaves the very job and the very cells.
-// A cut and a lift each stand here twice, once for each make, since each borrows mutably only the sheet that it changes.
+// A cut and a lift each stand here twice, once for each make, since each borrows mutably only the sheet that it changes. For
+// the same reason the two sheets are no struct of both.
 ghost use Rattle.runs.specs.declared.stage.Make.TheVariants.{Classes, Speeds};
 ghost use Rattle.runs.specs.declared.call.Call.TheVariants.{Cut, Lift, Look};
 ghost use Rattle.job.specs.Holding.{held};

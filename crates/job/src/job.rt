@@ -3,7 +3,7 @@ ghost use Rattle.std.specs.Prelude.{◌<◌};
 
 use runs::{Samples, Stage, Sweep};
 
-#[derive(Drop)]
+#[derive(Debug, Drop, PartialEq, Eq)]
 pub struct Job {
     pub(crate) samples: Samples,
     pub(crate) stage: Stage,

@@ -13,6 +13,8 @@ use limit::Limit;
 use runs::{Make, Stage};
 use sweep::{FRESH, Outcome, sweep_step};
 
+// That a sheet is as long as there are samples is required by `follow`, `step` and `work`, and is no struct's: it would hold
+// the job and both sheets by `&mut`, and each clause would read through one reference more.
 impl Job {
     // What follows from the outcome of an evaluation at a sample, whose value has fallen already.
     fn follow(
@@ -55,6 +57,7 @@ impl Job {
         ensures stepped { whole self.new classes.new speeds.new ≡ stepped (setting self.old.samples.count (C.Limit.number limits.now.classes.now) (S.Limit.number limits.now.speeds.now)) self.old.stage self.old.sweep (sheets_of classes.old speeds.old) }
         ensures fallen { result ≡ fallen (setting self.old.samples.count (C.Limit.number limits.now.classes.now) (S.Limit.number limits.now.speeds.now)) self.old.stage self.old.sweep (sheets_of classes.old speeds.old) }
     {
+        // Each make has an arm of its own, since its cells and its limit are of another type.
         match self.stage {
             Stage::Working(Make::Classes) => {
                 let step = sweep_step(classes, limits.classes, self.sweep);

@@ -29,6 +29,7 @@ pub enum Fault {
 }
 
 impl Fault {
+    // The number of the question that it answers no. A refusal is known outside by this number: it is printed and documented.
     pub fn number(self) -> u8
         ensures { result ≡ question_of self }
     {

@@ -7,6 +7,7 @@ use job::{Job, Limits};
 use limit::Limit;
 use runs::{Answer, Call, Make, Reply};
 
+// A call is a value that can be kept and repeated, so what it does is a match and no closure.
 pub fn perform<C: Limit<Class>, S: Limit<Speed>>(
     job: &mut Job,
     classes: &mut [Cell<Class>],

@@ -3,7 +3,7 @@ ghost use Rattle.std.specs.Prelude.{◌<◌, length};
 ghost use Rattle.sweep.specs.Steps.{Stepped};
 
 use super::step::Step;
-use super::sweeping::{next_sample, outcome_of};
+use super::sweeping::Pass;
 use super::visiting::visit;
 use grade::{Cell, Grade};
 use limit::Limit;
@@ -13,12 +13,15 @@ pub fn sweep_step<G: Grade, L: Limit<G>>(cells: &mut [Cell<G>], limit: &L, sweep
     requires { sweep.visited < length cells.old }
     ensures { Stepped G.Grade.rank (L.Limit.number limit.now) sweep cells.old cells.new result }
 {
-    let samples = cells.len();
-    let at = next_sample(sweep, samples);
+    let pass = Pass {
+        sweep,
+        samples: cells.len(),
+    };
+    let at = pass.next_sample();
     let finding = visit(cells, limit, at);
     Step {
         at,
         finding,
-        outcome: outcome_of(sweep, finding, samples),
+        outcome: pass.outcome_of(finding),
     }
 }
