@@ -28,6 +28,7 @@ pub enum CapClause {
 // A clause as it lies in a sample: its kind and two numbers.
 #[derive(Clone, Copy, Debug, PartialEq, Eq)]
 pub struct ClauseWords {
+    // The byte that lies there, which may be no kind's number.
     pub kind: u8,
     pub first: u32,
     pub second: u32,

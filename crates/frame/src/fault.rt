@@ -26,6 +26,7 @@ pub enum FrameFault {
     Row(RecordFault<RowFault>),
 }
 
+// Three conversions by hand: contracts name the variant that each gives, which a derived one does not say.
 impl From<RecordFault<SampleFault>> for FrameFault {
     ghost from_gives = { λ e r. r ≡ Sample e };
 

@@ -38,7 +38,7 @@ pub struct Refusal {
     pub place: u64,
 }
 
-// A question about the frame itself.
+// A question about the frame itself, by the number that the format gives it.
 fn of_frame(number: u8, at: usize) -> Refusal
     ensures { result ≡ framed number at }
 {

@@ -50,7 +50,7 @@ impl GapWords {
         }
     }
 
-    // The gap, or the first question that says no.
+    // The gap, or the first question that says no. No `TryFrom`: it is read as samples and rows are, which ask of their place too.
     pub fn read(self) -> Result<Gap, GapFault>
         ensures { result ≡ gap_read self }
     {
