@@ -1,18 +1,13 @@
 // The program at the bench: a path frame explained, its records rewritten, and scripts of calls replayed.
 #![tactic(auto)]
 
-mod checking;
-mod explaining;
-mod files;
 mod planning;
 mod replaying;
-mod rewriting;
 mod script;
 
-use checking::check;
+use console::{Stop, check, complain, exit_code, rewrite_file};
 use planning::plan_file;
 use replaying::replay;
-use rewriting::rewrite_file;
 use std::env;
 use std::process::ExitCode;
 
@@ -29,68 +24,42 @@ const HELP: &str = "furqyzet: speed planning for sampled paths, proved.
 
 The status is 0, or 1 where a frame is refused, a path is impossible, a file can't be read or written, or a script breaks off.";
 
-// How a command ended; the reason is printed already.
-#[derive(Clone, Copy)]
-pub enum Ended {
-    Done,
-    Failed,
-}
-
 fn main(rt: HostRuntime) -> anyhow::Result<ExitCode> {
-    match command(&rt)? {
-        Ended::Done => Ok(ExitCode::SUCCESS),
-        Ended::Failed => Ok(ExitCode::FAILURE),
-    }
+    exit_code(command(&rt))
 }
 
 // Does what the arguments ask for.
-fn command(rt: &HostRuntime) -> anyhow::Result<Ended> {
-    let mut words = Vec::new(rt.alloc());
+fn command(rt: &HostRuntime) -> Result<(), Stop> {
+    let mut given = Vec::new(rt.alloc());
     for word in env::args(rt)?.skip(1) {
-        words.push(word)?;
+        given.push(word)?;
     }
-    if words.len() == 0 {
-        println!(rt; "{HELP}")?;
-        return Ok(Ended::Done);
+    let words: Vec<&str> = given.iter().map(|word| word.as_str()).collect(rt.alloc())?;
+    match words.as_slice() {
+        [] | ["help" | "--help" | "-h"] => println!(rt; "{HELP}")?,
+        ["--version" | "-V"] => println!(rt; "{VERSION}")?,
+        ["check", frame] => check(rt, frame)?,
+        ["plan", frame] => plan_file(rt, frame)?,
+        ["replay", script] => replay(rt, script)?,
+        ["rewrite", frame, out] => rewrite_file(rt, frame, out)?,
+        [verb, ..] => return Err(misused(rt, verb)),
     }
-    let verb = words[0].as_str();
-    if words.len() == 1 {
-        return alone(rt, verb);
-    }
-    if words.len() == 2 && verb == "check" {
-        return check(rt, words[1].as_str());
-    }
-    if words.len() == 2 && verb == "plan" {
-        return plan_file(rt, words[1].as_str());
-    }
-    if words.len() == 2 && verb == "replay" {
-        return replay(rt, words[1].as_str());
-    }
-    if words.len() == 3 && verb == "rewrite" {
-        return rewrite_file(rt, words[1].as_str(), words[2].as_str());
-    }
-    misused(rt, verb)
+    Ok(())
 }
 
-// A verb with nothing behind it.
-fn alone(rt: &HostRuntime, verb: &str) -> anyhow::Result<Ended> {
-    match verb {
-        "help" | "--help" | "-h" => println!(rt; "{HELP}")?,
-        "--version" | "-V" => println!(rt; "{VERSION}")?,
-        _ => return misused(rt, verb),
-    }
-    Ok(Ended::Done)
-}
-
-fn misused(rt: &HostRuntime, verb: &str) -> anyhow::Result<Ended> {
-    match verb {
-        "check" => eprintln!(rt; "furqyzet: check takes one file: furqyzet check FRAME")?,
-        "rewrite" => eprintln!(rt;
-            "furqyzet: rewrite takes two files: furqyzet rewrite FRAME OUT"
-        )?,
-        "plan" => eprintln!(rt; "furqyzet: plan takes one file: furqyzet plan FRAME")?,
-        "replay" => eprintln!(rt; "furqyzet: replay takes one file: furqyzet replay SCRIPT")?,
-        _ => eprintln!(rt; "furqyzet: there is no command '{verb}'; furqyzet help lists them")?,
-    }
-    Ok(Ended::Failed)
+// Says what a verb takes that is there with other words behind it, or that it is none.
+fn misused(rt: &HostRuntime, verb: &str) -> Stop {
+    let reason = match verb {
+        "check" => "check takes one file: furqyzet check FRAME",
+        "rewrite" => "rewrite takes two files: furqyzet rewrite FRAME OUT",
+        "plan" => "plan takes one file: furqyzet plan FRAME",
+        "replay" => "replay takes one file: furqyzet replay SCRIPT",
+        _ => {
+            return complain(
+                rt,
+                format_args!("there is no command '{verb}'; furqyzet help lists them"),
+            );
+        }
+    };
+    complain(rt, reason)
 }

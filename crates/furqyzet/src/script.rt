@@ -1,54 +1,47 @@
 // The lines of a script.
+use std::fmt;
 
 // A line's call, with the words behind it.
-#[derive(Clone, Copy)]
+#[derive(Clone, Copy, Debug, PartialEq, Eq)]
 pub enum Line<'a> {
     // No call at all.
     Empty,
     // The bytes for the lines below.
     Frame(&'a str),
     // The frame's records, written into memory of so many bytes.
-    WritePath(u64),
-    // A call with a word missing, too many or no number.
+    WritePath(usize),
+}
+
+// Why a line's words make no call, with its verb.
+#[derive(Clone, Copy, Debug, PartialEq, Eq)]
+pub enum LineFault<'a> {
+    // A word is missing, there are too many, or no number stands where one belongs.
     Broken(&'a str),
     Unknown(&'a str),
 }
 
-fn number(word: Option<&str>) -> Option<u64> {
-    match word?.parse::<u64>() {
-        Ok(value) => Some(value),
-        Err(_) => None,
+impl fmt::Display for LineFault<'_> {
+    fn fmt<W: fmt::Write>(&self, f: &mut fmt::Formatter<W>) -> fmt::Result {
+        match self {
+            LineFault::Broken(verb) => write!(
+                f,
+                "{verb} has too few words, too many, or no number where one belongs"
+            ),
+            LineFault::Unknown(verb) => write!(f, "there is no call '{verb}'"),
+        }
     }
 }
 
-// The call of a line.
-pub fn line_of(text: &str) -> Line<'_> {
-    let mut words = text.split_whitespace();
-    let Some(verb) = words.next() else {
-        return Line::Empty;
-    };
-    let first = words.next();
-    let more = words.next();
-    if more.is_some() {
-        return if is_known(verb) {
-            Line::Broken(verb)
-        } else {
-            Line::Unknown(verb)
-        };
-    }
-    match verb {
-        "frame" => match first {
-            Some(file) => Line::Frame(file),
-            None => Line::Broken(verb),
+// The call of a line's words.
+pub fn line_of<'a>(words: &[&'a str]) -> Result<Line<'a>, LineFault<'a>> {
+    match words {
+        [] => Ok(Line::Empty),
+        ["frame", file] => Ok(Line::Frame(file)),
+        [verb @ "write-path", length] => match length.parse() {
+            Ok(length) => Ok(Line::WritePath(length)),
+            Err(_) => Err(LineFault::Broken(verb)),
         },
-        "write-path" => match number(first) {
-            Some(bytes) => Line::WritePath(bytes),
-            None => Line::Broken(verb),
-        },
-        _ => Line::Unknown(verb),
+        [verb @ ("frame" | "write-path"), ..] => Err(LineFault::Broken(verb)),
+        [verb, ..] => Err(LineFault::Unknown(verb)),
     }
-}
-
-fn is_known(verb: &str) -> bool {
-    verb == "frame" || verb == "write-path"
 }

@@ -1,0 +1,31 @@
+// A frame read, or why it is refused.
+ghost use Rattle.std.specs.Prelude.{◌≡◌, ◌↔◌, true, IsOk, IfOk};
+ghost use Rattle.frame.specs.Paths.{accepted};
+
+use super::stop::Stop;
+use frame::{PathFrame, Refusal, read};
+use std::fmt;
+
+// Says which question refuses a frame, and what it asks: the stop for it.
+pub fn refuse<Q: fmt::Display + Drop>(rt: &HostRuntime, refusal: Refusal, question: Q) -> Stop {
+    let Refusal {
+        layer,
+        number,
+        place,
+    } = refusal;
+    match println!(rt; "refused: layer {layer}, question {number}, at byte {place}\n{question}") {
+        Ok(()) => Stop::Reported,
+        Err(error) => Stop::from(error),
+    }
+}
+
+// The view of bytes that the reader accepts.
+pub fn accept<'a>(rt: &HostRuntime, bytes: &'a [u8]) -> Result<PathFrame<'a>, Stop>
+    ensures accepts { IsOk result ↔ (accepted bytes.now ≡ true) }
+    ensures view { IfOk result (λ frame. frame.bytes.now ≡ bytes.now) }
+{
+    match read(bytes) {
+        Ok(_) => Ok(PathFrame::over(bytes)),
+        Err(fault) => Err(refuse(rt, fault.refusal(), fault)),
+    }
+}

@@ -1,0 +1,61 @@
+// Why a command stops before its end, and the status of the program then.
+ghost use Rattle.std.specs.Prelude.{◌≡◌};
+ghost use Rattle.anyhow.specs.declared.error.Error.{Error};
+
+use std::alloc::{AllocError, AllocFailed};
+use std::process::ExitCode;
+use std::{fmt, io};
+
+#[derive(Debug, Drop)]
+pub enum Stop {
+    // The reason is printed already.
+    Reported,
+    // Any other error, which `main` passes on.
+    Other(anyhow::Error),
+}
+
+impl From<anyhow::Error> for Stop {
+    fn from(error: anyhow::Error) -> Stop {
+        Stop::Other(error)
+    }
+}
+
+impl From<io::Error> for Stop {
+    fn from(error: io::Error) -> Stop {
+        Stop::Other(error.into())
+    }
+}
+
+impl From<AllocError> for Stop {
+    fn from(error: AllocError) -> Stop {
+        Stop::Other(error.into())
+    }
+}
+
+impl<T: Drop> From<AllocFailed<T>> for Stop {
+    fn from(failed: AllocFailed<T>) -> Stop {
+        Stop::Other(AllocError::from(failed).into())
+    }
+}
+
+// Says on standard error what is wrong: the stop for it.
+pub fn complain<M: fmt::Display + Drop>(rt: &HostRuntime, reason: M) -> Stop {
+    match eprintln!(rt; "furqyzet: {reason}") {
+        Ok(()) => Stop::Reported,
+        Err(error) => Stop::from(error),
+    }
+}
+
+// What `main` returns of a command that ended so: the status is 1 where the reason is printed already, and any other error
+// is for `main` to print.
+pub fn exit_code(ended: Result<(), Stop>) -> anyhow::Result<ExitCode>
+    ensures done { ended ≡ Ok tt → result ≡ Ok ExitCode.SUCCESS }
+    ensures reported { ended ≡ Err Stop.Reported → result ≡ Ok ExitCode.FAILURE }
+    ensures other { (error : Error) → ended ≡ Err (Stop.Other error) → result ≡ Err error }
+{
+    match ended {
+        Ok(()) => Ok(ExitCode::SUCCESS),
+        Err(Stop::Reported) => Ok(ExitCode::FAILURE),
+        Err(Stop::Other(error)) => Err(error),
+    }
+}
