@@ -10,34 +10,31 @@ pub struct BoundName(pub Option<Bound>);
 impl fmt::Display for BoundName {
     fn fmt<W: fmt::Write>(&self, f: &mut fmt::Formatter<W>) -> fmt::Result {
         match self.0 {
+            Some(Bound::Cap) => f.pad("cap"),
+            Some(Bound::Class) => f.pad("class"),
+            Some(Bound::RampBefore) => f.pad("ramp before"),
+            Some(Bound::RampAfter) => f.pad("ramp after"),
+            Some(Bound::Average) => f.pad("average"),
             Some(Bound::TorqueRow(row)) => write!(f, "torque row {row}"),
-            Some(bound) => f.pad(plain_name(bound)),
             None => f.pad("nothing"),
         }
     }
 }
 
-// The name of a bound; all torque rows have one.
-fn plain_name(bound: Bound) -> &'static str {
-    match bound {
-        Bound::Cap => "cap",
-        Bound::Class => "class",
-        Bound::RampBefore => "ramp before",
-        Bound::RampAfter => "ramp after",
-        Bound::Average => "average",
-        Bound::TorqueRow(_) => "torque row",
-    }
-}
-
 // The bound of a sample, in a sentence.
-fn subject(bound: Bound) -> &'static str {
-    match bound {
-        Bound::Cap => "the cap",
-        Bound::Class => "the class table at its class",
-        Bound::RampBefore => "the ramp from the sample before",
-        Bound::RampAfter => "the ramp from the sample after",
-        Bound::Average => "the average of its neighbours",
-        Bound::TorqueRow(_) => "torque row",
+#[derive(Clone, Copy)]
+struct Subject(Bound);
+
+impl fmt::Display for Subject {
+    fn fmt<W: fmt::Write>(&self, f: &mut fmt::Formatter<W>) -> fmt::Result {
+        match self.0 {
+            Bound::Cap => write!(f, "the cap"),
+            Bound::Class => write!(f, "the class table at its class"),
+            Bound::RampBefore => write!(f, "the ramp from the sample before"),
+            Bound::RampAfter => write!(f, "the ramp from the sample after"),
+            Bound::Average => write!(f, "the average of its neighbours"),
+            Bound::TorqueRow(row) => write!(f, "torque row {row}"),
+        }
     }
 }
 
@@ -47,20 +44,21 @@ pub struct ClashText(pub Clash);
 
 impl fmt::Display for ClashText {
     fn fmt<W: fmt::Write>(&self, f: &mut fmt::Formatter<W>) -> fmt::Result {
-        let clash = self.0;
-        write!(f, "{}", subject(clash.bound))?;
-        if let Bound::TorqueRow(row) = clash.bound {
-            write!(f, " {row}")?;
-        }
-        let thing = match clash.make {
+        let Clash {
+            make,
+            bound,
+            most,
+            floor,
+        } = self.0;
+        let thing = match make {
             Make::Classes => "class",
             Make::Speeds => "squared speed",
         };
-        match clash.most {
-            Some(most) => write!(f, " allows a {thing} of at most {most}")?,
-            None => write!(f, " allows no {thing} at all")?,
+        write!(f, "{} allows ", Subject(bound))?;
+        match most {
+            Some(most) => write!(f, "a {thing} of at most {most}")?,
+            None => write!(f, "no {thing} at all")?,
         }
-        let floor = clash.floor;
         write!(f, ", and the floor is {floor}")
     }
 }

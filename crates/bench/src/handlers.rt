@@ -1,29 +1,57 @@
-// The calls of a script on a job that is at hand, and on one that is released and spent.
-use super::Ended;
-use super::answering::{print_answer, print_cells, print_refused, print_written};
+// The calls of a script at each time: before there is a job, on a job that is at hand, and on one that is released and spent.
+use super::answering::{print_answer, print_cells};
 use super::live::Live;
-use super::memories::{TOO_LARGE, bytes};
-use super::replaying::{Handled, Handler, Made, Next, handle_lines};
-use super::script::{JobLine, Script};
-use frame::{PathFrame, read};
+use super::made::Made;
+use super::replaying::{Handler, Next, Script, lend, only_made};
+use super::script::JobLine;
+use console::{Stop, complain, print_refused, print_written};
+use frame::PathFrame;
 use setpoint::{Released, ask_release, release};
+use std::convert::Infallible;
+use std::ops::ControlFlow;
 
-impl<'a> Handler for Live<'a> {
-    fn answer(&mut self, rt: &HostRuntime, line: JobLine) -> anyhow::Result<Handled> {
+// There is no job yet.
+#[derive(Drop)]
+pub struct NoJob;
+
+impl Handler for NoJob {
+    type Parting = Infallible;
+
+    fn answer(
+        &mut self,
+        rt: &HostRuntime,
+        _line: JobLine,
+    ) -> Result<ControlFlow<Infallible>, Stop> {
+        Err(complain(rt, "there is no job: make one from the frame"))
+    }
+}
+
+// The job said yes to its release.
+#[derive(Clone, Copy)]
+pub struct Releasing;
+
+impl Handler for Live<'_> {
+    type Parting = Releasing;
+
+    fn answer(&mut self, rt: &HostRuntime, line: JobLine) -> Result<ControlFlow<Releasing>, Stop> {
         match line {
             JobLine::Call(call) => print_answer(rt, self.call(call), self.job.stage())?,
-            JobLine::Cells => print_cells(rt, self.class_cells(), self.speed_cells())?,
+            JobLine::Cells => {
+                let classes = self.of_samples(self.classes.as_slice());
+                let speeds = self.of_samples(self.speeds.as_slice());
+                print_cells(rt, classes, speeds)?;
+            }
             JobLine::Release => {
                 match ask_release(&self.job, self.classes.len(), self.speeds.len()) {
-                    Ok(()) => return Ok(Handled::Release),
+                    Ok(()) => return Ok(ControlFlow::Break(Releasing)),
                     Err(fault) => print_refused(rt, fault.number())?,
                 }
             }
             JobLine::Setpoints(_) => {
-                return Ok(Handled::Misused("the job is not released: release it first"));
+                return Err(complain(rt, "the job is not released: release it first"));
             }
         }
-        Ok(Handled::Answered)
+        Ok(ControlFlow::Continue(()))
     }
 }
 
@@ -33,45 +61,47 @@ struct Spent<'a> {
     released: Released<'a>,
 }
 
-impl<'a> Handler for Spent<'a> {
-    fn answer(&mut self, rt: &HostRuntime, line: JobLine) -> anyhow::Result<Handled> {
+impl Handler for Spent<'_> {
+    type Parting = Infallible;
+
+    fn answer(&mut self, rt: &HostRuntime, line: JobLine) -> Result<ControlFlow<Infallible>, Stop> {
         let JobLine::Setpoints(length) = line else {
-            return Ok(Handled::Misused(
+            return Err(complain(
+                rt,
                 "the job is released and spent: make a new job from the frame",
             ));
         };
-        let Some(mut memory) = bytes(rt.alloc(), length)? else {
-            return Ok(Handled::Misused(TOO_LARGE));
-        };
+        let mut memory = lend(rt, length)?;
         match self.released.write_setpoints(memory.as_mut_slice()) {
             Ok(size) => print_written(rt, size, memory.as_slice())?,
             Err(fault) => print_refused(rt, fault.number())?,
         }
-        Ok(Handled::Answered)
+        Ok(ControlFlow::Continue(()))
     }
 }
 
-// The lines from the making of a job on: calls on it, and after its release those on a spent one.
-pub fn with_job(rt: &HostRuntime, script: &mut Script<'_>, made: Made) -> anyhow::Result<Next> {
+// The lines from the making of a job on, up to that of another: calls on it, and after its release those on a spent one.
+pub fn with_job(
+    rt: &HostRuntime,
+    script: &mut Script<'_>,
+    made: Made,
+) -> Result<Option<Made>, Stop> {
     let Made {
         frame,
         classes,
         speeds,
         job,
     } = made;
-    let bytes = frame.as_slice();
-    if read(bytes).is_err() {
-        return Ok(Next::Ended(Ended::Failed));
-    }
     let mut live = Live {
-        frame: PathFrame::over(bytes),
+        frame: PathFrame::over(frame.as_slice()),
         job,
         classes,
         speeds,
     };
-    match handle_lines(rt, script, &mut live)? {
-        Next::Release => after_release(rt, script, live),
-        next => Ok(next),
+    match script.run(rt, &mut live)? {
+        None => Ok(None),
+        Some(Next::Made(made)) => Ok(Some(made)),
+        Some(Next::Parted(Releasing)) => after_release(rt, script, live),
     }
 }
 
@@ -80,7 +110,7 @@ fn after_release(
     rt: &HostRuntime,
     script: &mut Script<'_>,
     live: Live<'_>,
-) -> anyhow::Result<Next> {
+) -> Result<Option<Made>, Stop> {
     let Live {
         job,
         classes,
@@ -89,11 +119,11 @@ fn after_release(
     } = live;
     if let Err(fault) = ask_release(&job, classes.len(), speeds.len()) {
         print_refused(rt, fault.number())?;
-        return Ok(Next::Ended(Ended::Failed));
+        return Err(Stop::Reported);
     }
     println!(rt; "released")?;
     let mut spent = Spent {
         released: release(job, classes.as_slice(), speeds.as_slice()),
     };
-    handle_lines(rt, script, &mut spent)
+    Ok(only_made(script.run(rt, &mut spent)?))
 }

@@ -1,9 +1,8 @@
 // A job at hand, with the frame that it was made of and its memories.
 use frame::PathFrame;
-use grade::{Cell, Class, Sheet, Speed};
-use job::Job;
-use motion::{Offsets, Rows, Steps};
-use runs::{Answer, Call};
+use grade::{Cell, Class, Speed};
+use job::{Job, Limits};
+use runs::{Answer, Call, Reply};
 use sequence::run;
 use sources::{class_limit, speed_limit};
 
@@ -18,35 +17,24 @@ pub struct Live<'a> {
 impl Live<'_> {
     // One call, under the frame's own limits.
     pub fn call(&mut self, call: Call) -> Answer {
-        let mut answers = [Answer::Done];
-        let mut classes = Sheet::new(self.classes.as_mut_slice());
-        let mut speeds = Sheet::new(self.speeds.as_mut_slice());
-        let ran = run(
+        let limits = Limits {
+            classes: &class_limit(self.frame),
+            speeds: &speed_limit(self.frame),
+        };
+        let mut answers = [Ok(Reply::Done)];
+        run(
             &mut self.job,
-            &mut classes,
-            &mut speeds,
-            &class_limit(self.frame),
-            &speed_limit(self.frame),
+            self.classes.as_mut_slice(),
+            self.speeds.as_mut_slice(),
+            &limits,
             &[call],
             &mut answers,
-        );
-        match ran {
-            Ok(_) => answers[0],
-            Err(fault) => Answer::Refused(fault),
-        }
+        )?;
+        answers[0]
     }
 
-    // The cells of the samples.
-    pub fn class_cells(&self) -> &[Cell<Class>] {
-        first(self.classes.as_slice(), self.job.samples().count)
+    // Of a memory of this job, the cells of the samples, or all where there are fewer.
+    pub fn of_samples<'c, G>(&self, cells: &'c [Cell<G>]) -> &'c [Cell<G>] {
+        &cells[..self.job.samples().count.min(cells.len())]
     }
-
-    pub fn speed_cells(&self) -> &[Cell<Speed>] {
-        first(self.speeds.as_slice(), self.job.samples().count)
-    }
-}
-
-// As many cells from the front, or all where there are fewer.
-fn first<G>(cells: &[Cell<G>], count: usize) -> &[Cell<G>] {
-    &cells[0..count.min(cells.len())]
 }

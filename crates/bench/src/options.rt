@@ -1,7 +1,8 @@
 // What `furqyzet plan` is asked for.
 use super::script::number;
+use std::fmt;
 
-#[derive(Clone, Copy)]
+#[derive(Clone, Copy, Debug, PartialEq, Eq)]
 pub struct PlanOptions<'a> {
     pub frame: &'a str,
     // The evaluations of a cycle, at least 1; where none are given, as many as the job can need.
@@ -11,73 +12,59 @@ pub struct PlanOptions<'a> {
     pub quiet: bool,
 }
 
-// What the next word is.
-#[derive(Clone, Copy)]
-enum Expected {
-    // The frame, or an option.
-    Any,
-    Allowance,
-    Setpoints,
+// What is wrong with the words behind the verb.
+#[derive(Clone, Copy, Debug, PartialEq, Eq)]
+pub enum OptionFault {
+    NoFrame,
+    TwoFrames,
+    NoAllowance,
+    NoSetpoints,
+    Unknown,
 }
 
-// The options that the words behind the verb give, or what is wrong with them.
-pub fn plan_options(words: &[String]) -> Result<PlanOptions<'_>, &'static str> {
-    let mut options = PlanOptions {
-        frame: "",
-        allowance: None,
-        setpoints: None,
-        quiet: false,
-    };
-    let mut expected = Expected::Any;
-    for word in words.iter().skip(1) {
-        expected = take_word(&mut options, expected, word.as_str())?;
+impl fmt::Display for OptionFault {
+    fn fmt<W: fmt::Write>(&self, f: &mut fmt::Formatter<W>) -> fmt::Result {
+        f.write_str(match self {
+            OptionFault::NoFrame => "takes a frame, as in furqyzet plan FRAME",
+            OptionFault::TwoFrames => "takes one frame",
+            OptionFault::NoAllowance => {
+                "takes a number of evaluations, at least 1, behind --allowance"
+            }
+            OptionFault::NoSetpoints => "takes a file to write behind --setpoints",
+            OptionFault::Unknown => "has the options --allowance, --setpoints and --quiet alone",
+        })
     }
-    match expected {
-        Expected::Any => {}
-        Expected::Allowance => return Err(NO_ALLOWANCE),
-        Expected::Setpoints => return Err("takes a file to write behind --setpoints"),
-    }
-    if options.frame == "" {
-        return Err("takes a frame, as in furqyzet plan FRAME");
-    }
-    Ok(options)
 }
 
-const NO_ALLOWANCE: &str = "takes a number of evaluations, at least 1, behind --allowance";
-
-// Notes one word, and says what the next one is.
-fn take_word<'a>(
-    options: &mut PlanOptions<'a>,
-    expected: Expected,
-    word: &'a str,
-) -> Result<Expected, &'static str> {
-    match expected {
-        Expected::Allowance => {
-            options.allowance = Some(allowance(word)?);
-            return Ok(Expected::Any);
+// The options that the words behind the verb give, or the first thing that is wrong with them.
+pub fn plan_options<'a>(words: &[&'a str]) -> Result<PlanOptions<'a>, OptionFault> {
+    let mut frame = None;
+    let mut allowance = None;
+    let mut setpoints = None;
+    let mut quiet = false;
+    let mut words = words.iter();
+    while let Some(&word) = words.next() {
+        match word {
+            "--allowance" => {
+                let evaluations = words.next().and_then(|word| number(word));
+                allowance = Some(
+                    evaluations
+                        .filter(|evaluations| *evaluations > 0)
+                        .ok_or(OptionFault::NoAllowance)?,
+                );
+            }
+            "--setpoints" => setpoints = Some(*words.next().ok_or(OptionFault::NoSetpoints)?),
+            "--quiet" => quiet = true,
+            _ if word.starts_with("--") => return Err(OptionFault::Unknown),
+            _ if frame.is_some() => return Err(OptionFault::TwoFrames),
+            // An empty word names no frame.
+            _ => frame = Some(word).filter(|word| *word != ""),
         }
-        Expected::Setpoints => {
-            options.setpoints = Some(word);
-            return Ok(Expected::Any);
-        }
-        Expected::Any => {}
     }
-    match word {
-        "--allowance" => return Ok(Expected::Allowance),
-        "--setpoints" => return Ok(Expected::Setpoints),
-        "--quiet" => options.quiet = true,
-        _ if word.starts_with("--") => return Err(
-            "has the options --allowance, --setpoints and --quiet alone",
-        ),
-        _ if options.frame == "" => options.frame = word,
-        _ => return Err("takes one frame"),
-    }
-    Ok(Expected::Any)
-}
-
-fn allowance(word: &str) -> Result<u64, &'static str> {
-    match number(word) {
-        None | Some(0) => Err(NO_ALLOWANCE),
-        Some(evaluations) => Ok(evaluations),
-    }
+    Ok(PlanOptions {
+        frame: frame.ok_or(OptionFault::NoFrame)?,
+        allowance,
+        setpoints,
+        quiet,
+    })
 }

@@ -2,151 +2,155 @@
 //
 // At each time there is no job, a job at hand or a spent one. Lines about the frame and `make` mean the same at all
 // times; what a call on the job means is for the handler of that time to say. A done `make` throws away the job before it.
-use super::Ended;
-use super::answering::{print_made, print_refused, print_unmade, print_written};
-use super::files::load;
-use super::handlers::with_job;
-use super::memories::{TOO_LARGE, bytes, cells};
-use super::script::{JobLine, Line, Script};
-use frame::{RewriteFault, WriteFault, rewrite};
+use super::answering::print_made;
+use super::handlers::{NoJob, with_job};
+use super::made::Made;
+use super::script::{JobLine, Line, line_of};
+use console::{
+    Place, Stop, break_off, bytes, cells, complain, load, load_text, print_unmade, write_path,
+};
 use grade::{Cell, Class, Speed};
-use job::Job;
 use planner::{ask, make};
-use std::str::from_utf8;
+use std::alloc::Global;
+use std::convert::Infallible;
+use std::ops::ControlFlow;
+use std::str::Lines;
 
-// A job that was made, with its frame and its memories.
-#[derive(Drop)]
-pub struct Made {
-    pub frame: Vec<u8>,
-    pub classes: Vec<Cell<Class>>,
-    pub speeds: Vec<Cell<Speed>>,
-    pub job: Job,
-}
+// No frame comes near as many bytes.
+const MOST_BYTES: u64 = 1 << 30;
 
-// What comes after the lines that a handler has answered.
+// What ends the lines of a handler before the script ends.
 #[derive(Drop)]
-pub enum Next {
-    Ended(Ended),
+pub enum Next<P> {
     // Another job was made.
     Made(Made),
-    // The job said yes to its release.
-    Release,
-}
-
-// How a handler took a call.
-#[derive(Clone, Copy)]
-pub enum Handled {
-    Answered,
-    Release,
-    // The call is not for this time: what is wrong, and what to do.
-    Misused(&'static str),
+    // The handler parts from its job.
+    Parted(P),
 }
 
 // Who answers the calls on a job.
 pub trait Handler {
-    fn answer(&mut self, rt: &HostRuntime, line: JobLine) -> anyhow::Result<Handled>;
+    // With what it parts from its job, if it does.
+    type Parting;
+
+    // Answers a call.
+    fn answer(
+        &mut self,
+        rt: &HostRuntime,
+        line: JobLine,
+    ) -> Result<ControlFlow<Self::Parting>, Stop>;
 }
 
-// There is no job yet.
+// A script under way: its file, the lines that are left, how many were read, and the frame for the lines below.
 #[derive(Drop)]
-struct NoJob;
-
-impl Handler for NoJob {
-    fn answer(&mut self, _rt: &HostRuntime, _line: JobLine) -> anyhow::Result<Handled> {
-        Ok(Handled::Misused("there is no job: make one from the frame"))
-    }
+pub struct Script<'a> {
+    path: &'a str,
+    lines: Lines<'a>,
+    read: usize,
+    frame: Vec<u8>,
 }
 
-pub fn replay(rt: &HostRuntime, path: &str) -> anyhow::Result<Ended> {
-    let Some(bytes) = load(rt, path)? else {
-        return Ok(Ended::Failed);
-    };
-    let Ok(text) = from_utf8(bytes.as_slice()) else {
-        eprintln!(rt; "furqyzet: {path} is no text")?;
-        return Ok(Ended::Failed);
-    };
-    let mut script = Script::new(rt.alloc(), text);
-    let ended = replay_lines(rt, &mut script)?;
-    if let Ended::Failed = ended {
-        let number = script.number;
-        let line = script.line;
-        eprintln!(rt; "furqyzet: {path} breaks off at line {number}: {line}")?;
-    }
-    Ok(ended)
-}
-
-fn replay_lines(rt: &HostRuntime, script: &mut Script<'_>) -> anyhow::Result<Ended> {
-    let mut next = handle_lines(rt, script, &mut NoJob)?;
+pub fn replay(rt: &HostRuntime, path: &str) -> Result<(), Stop> {
+    let text = load_text(rt, path)?;
+    let mut script = Script::new(rt.alloc(), path, text.as_str());
+    let mut made = only_made(script.run(rt, &mut NoJob)?);
+    // A count and no `while let`: that each job takes a line of its own, and so that jobs end, is not in the contracts.
     for _ in 0..u64::MAX {
-        match next {
-            Next::Ended(ended) => return Ok(ended),
-            Next::Made(made) => next = with_job(rt, script, made)?,
-            // Only a job is released, and `with_job` goes on from there itself.
-            Next::Release => return Ok(Ended::Failed),
+        let Some(job) = made else {
+            break;
+        };
+        made = with_job(rt, &mut script, job)?;
+    }
+    Ok(())
+}
+
+// The job that was made, of a handler that never parts from its own.
+pub fn only_made(next: Option<Next<Infallible>>) -> Option<Made> {
+    match next? {
+        Next::Made(made) => Some(made),
+        Next::Parted(never) => match never {},
+    }
+}
+
+impl<'a> Script<'a> {
+    fn new(heap: Global, path: &'a str, text: &'a str) -> Script<'a> {
+        Script {
+            path,
+            lines: text.lines(),
+            read: 0,
+            frame: Vec::new(heap),
         }
     }
-    Ok(Ended::Failed)
-}
 
-// Reads lines and has a handler answer the calls on a job, until something else is to come.
-pub fn handle_lines<D: Handler>(
-    rt: &HostRuntime,
-    script: &mut Script<'_>,
-    handler: &mut D,
-) -> anyhow::Result<Next> {
-    for _ in 0..u64::MAX {
-        let Some(line) = script.read_line() else {
-            return Ok(Next::Ended(Ended::Done));
-        };
-        let handled = match line {
-            Line::Empty => Handled::Answered,
-            Line::Frame(file) => take_frame(rt, script, file)?,
-            Line::WritePath(length) => write_path(rt, script.frame.as_slice(), length)?,
-            Line::Make(classes, speeds) => {
-                if let Some(made) = make_job(rt, script.frame.as_slice(), classes, speeds)? {
-                    return Ok(Next::Made(made));
+    // Reads lines and has a handler answer the calls on a job, until something else is to come, or the script ends.
+    pub fn run<H: Handler>(
+        &mut self,
+        rt: &HostRuntime,
+        handler: &mut H,
+    ) -> Result<Option<Next<H::Parting>>, Stop> {
+        for line in &mut self.lines {
+            let index = self.read;
+            self.read = index.saturating_add(1);
+            match step(rt, &mut self.frame, handler, line) {
+                Ok(ControlFlow::Continue(())) => {}
+                Ok(ControlFlow::Break(next)) => return Ok(Some(next)),
+                Err(stop) => {
+                    let path = self.path;
+                    return Err(break_off(rt, Place { path, index, line }, stop));
                 }
-                Handled::Answered
-            }
-            Line::Job(line) => handler.answer(rt, line)?,
-            Line::Broken(_) => Handled::Misused(
-                "too few words, too many, or no number where one belongs",
-            ),
-            Line::Unknown(_) => Handled::Misused("there is no such call"),
-        };
-        match handled {
-            Handled::Answered => {}
-            Handled::Release => return Ok(Next::Release),
-            Handled::Misused(reason) => {
-                eprintln!(rt; "furqyzet: {reason}")?;
-                return Ok(Next::Ended(Ended::Failed));
             }
         }
+        Ok(None)
     }
-    Ok(Next::Ended(Ended::Done))
 }
 
-fn take_frame(rt: &HostRuntime, script: &mut Script<'_>, file: &str) -> anyhow::Result<Handled> {
-    match load(rt, file)? {
-        Some(bytes) => {
-            script.frame = bytes;
+// One line of a script.
+fn step<H: Handler>(
+    rt: &HostRuntime,
+    frame: &mut Vec<u8>,
+    handler: &mut H,
+    line: &str,
+) -> Result<ControlFlow<Next<H::Parting>>, Stop> {
+    let words: Vec<&str> = line.split_whitespace().collect(rt.alloc())?;
+    match line_of(words.as_slice()) {
+        Ok(Line::Empty) => {}
+        Ok(Line::Frame(file)) => *frame = take_frame(rt, file)?,
+        Ok(Line::WritePath(length)) => {
+            let mut memory = lend(rt, length)?;
+            write_path(rt, frame.as_slice(), memory.as_mut_slice())?;
+        }
+        Ok(Line::Make(classes, speeds)) => {
+            if let Some(made) = make_job(rt, frame.as_slice(), classes, speeds)? {
+                return Ok(ControlFlow::Break(Next::Made(made)));
+            }
+        }
+        Ok(Line::Job(line)) => {
+            if let ControlFlow::Break(parting) = handler.answer(rt, line)? {
+                return Ok(ControlFlow::Break(Next::Parted(parting)));
+            }
+        }
+        Err(fault) => return Err(complain(rt, fault)),
+    }
+    Ok(ControlFlow::Continue(()))
+}
+
+fn take_frame(rt: &HostRuntime, file: &str) -> Result<Vec<u8>, Stop> {
+    match load(rt, file) {
+        Ok(bytes) => {
             println!(rt; "ok")?;
-            Ok(Handled::Answered)
+            Ok(bytes)
         }
-        None => Ok(Handled::Misused("the frame is not there")),
+        Err(Stop::Reported) => Err(complain(rt, "the frame is not there")),
+        Err(error) => Err(error),
     }
 }
 
-fn write_path(rt: &HostRuntime, frame: &[u8], length: u64) -> anyhow::Result<Handled> {
-    let Some(mut memory) = bytes(rt.alloc(), length)? else {
-        return Ok(Handled::Misused(TOO_LARGE));
-    };
-    match rewrite(frame, memory.as_mut_slice()) {
-        Ok(size) => print_written(rt, size, memory.as_slice())?,
-        Err(RewriteFault::Frame(fault)) => print_unmade(rt, fault.refusal())?,
-        Err(RewriteFault::Memory) => print_refused(rt, WriteFault::Memory.number())?,
+// Memory for bytes, as a script asks for it.
+pub fn lend(rt: &HostRuntime, length: u64) -> Result<Vec<u8>, Stop> {
+    if length > MOST_BYTES {
+        return Err(complain(rt, "a script's memory has at most 1073741824 bytes"));
     }
-    Ok(Handled::Answered)
+    Ok(bytes(rt.alloc(), length as usize)?)
 }
 
 // The frame's job in new memories, or nothing where a question refuses it.
@@ -155,24 +159,19 @@ fn make_job(
     frame: &[u8],
     classes: u64,
     speeds: u64,
-) -> anyhow::Result<Option<Made>> {
+) -> Result<Option<Made>, Stop> {
     let mut classes: Vec<Cell<Class>> = cells(rt.alloc(), classes)?;
     let mut speeds: Vec<Cell<Speed>> = cells(rt.alloc(), speeds)?;
-    match ask(frame, classes.as_slice(), speeds.as_slice()) {
-        Ok(_) => {
-            let job = make(frame, classes.as_mut_slice(), speeds.as_mut_slice());
-            print_made(rt, job.stage())?;
-            let frame = frame.to_vec(rt.alloc())?;
-            Ok(Some(Made {
-                frame,
-                classes,
-                speeds,
-                job,
-            }))
-        }
-        Err(fault) => {
-            print_unmade(rt, fault.refusal())?;
-            Ok(None)
-        }
+    if let Err(fault) = ask(frame, classes.as_slice(), speeds.as_slice()) {
+        print_unmade(rt, fault.refusal())?;
+        return Ok(None);
     }
+    let job = make(frame, classes.as_mut_slice(), speeds.as_mut_slice());
+    print_made(rt, job.stage())?;
+    Ok(Some(Made {
+        frame: frame.to_vec(rt.alloc())?,
+        classes,
+        speeds,
+        job,
+    }))
 }

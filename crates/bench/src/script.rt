@@ -1,10 +1,9 @@
 // The lines of a script.
 use runs::{Call, Make};
-use std::alloc::Global;
-use std::str::Lines;
+use std::fmt;
 
 // What a line says.
-#[derive(Clone, Copy)]
+#[derive(Clone, Copy, Debug, PartialEq, Eq)]
 pub enum Line<'a> {
     // No call at all.
     Empty,
@@ -16,12 +15,9 @@ pub enum Line<'a> {
     Make(u64, u64),
     // A call on the job that there is.
     Job(JobLine),
-    // A call with a word missing, too many or no number.
-    Broken(&'a str),
-    Unknown(&'a str),
 }
 
-#[derive(Clone, Copy)]
+#[derive(Clone, Copy, Debug, PartialEq, Eq)]
 pub enum JobLine {
     Call(Call),
     // Every cell of the job's samples.
@@ -31,118 +27,84 @@ pub enum JobLine {
     Setpoints(u64),
 }
 
-// A script under way: the lines that are left, the last one read with its number, and the frame for the lines below.
-#[derive(Drop)]
-pub struct Script<'a> {
-    lines: Lines<'a>,
-    pub line: &'a str,
-    pub number: u64,
-    pub frame: Vec<u8>,
+// Why a line's words make no call.
+#[derive(Clone, Copy, Debug, PartialEq, Eq)]
+pub enum LineFault {
+    // A word is missing, there are too many, or no number stands where one belongs.
+    Broken,
+    Unknown,
 }
 
-impl<'a> Script<'a> {
-    pub fn new(heap: Global, text: &'a str) -> Script<'a> {
-        Script {
-            lines: text.lines(),
-            line: "",
-            number: 0,
-            frame: Vec::new(heap),
-        }
-    }
-
-    // What the next line says, or nothing after the last.
-    pub fn read_line(&mut self) -> Option<Line<'a>> {
-        let line = self.lines.next()?;
-        self.line = line;
-        self.number = self.number.saturating_add(1);
-        Some(line_of(line))
+impl fmt::Display for LineFault {
+    fn fmt<W: fmt::Write>(&self, f: &mut fmt::Formatter<W>) -> fmt::Result {
+        f.write_str(match self {
+            LineFault::Broken => "too few words, too many, or no number where one belongs",
+            LineFault::Unknown => "there is no such call",
+        })
     }
 }
+
+const VERBS: [&str; 12] = [
+    "frame",
+    "write-path",
+    "make",
+    "advance",
+    "look",
+    "cells",
+    "release",
+    "setpoints",
+    "class-cut",
+    "speed-cut",
+    "class-lift",
+    "speed-lift",
+];
 
 // A number from 0 to 2^64 − 1, in decimal digits alone.
 pub fn number(word: &str) -> Option<u64> {
     if word.starts_with('+') {
         return None;
     }
-    match word.parse::<u64>() {
-        Ok(value) => Some(value),
-        Err(_) => None,
-    }
+    word.parse().ok()
 }
 
-fn line_of(text: &str) -> Line<'_> {
-    let mut words = text.split_whitespace();
-    let Some(verb) = words.next() else {
-        return Line::Empty;
+// What a line's words say.
+pub fn line_of<'a>(words: &[&'a str]) -> Result<Line<'a>, LineFault> {
+    let Some((verb, behind)) = words.split_first() else {
+        return Ok(Line::Empty);
     };
-    let first = words.next();
-    let second = words.next();
-    let found = if words.next().is_some() {
-        None
+    call_of(verb, behind).ok_or(if VERBS.contains(verb) {
+        LineFault::Broken
     } else {
-        with_words(verb, first, second)
-    };
-    match found {
-        Some(line) => line,
-        None if is_known(verb) => Line::Broken(verb),
-        None => Line::Unknown(verb),
-    }
+        LineFault::Unknown
+    })
 }
 
 // The call of a verb with the words behind it, or nothing where they don't fit.
-fn with_words<'a>(verb: &str, first: Option<&'a str>, second: Option<&'a str>) -> Option<Line<'a>> {
-    match (first, second) {
-        (Some(first), Some(second)) => with_two(verb, number(first)?, number(second)?),
-        (Some(file), None) if verb == "frame" => Some(Line::Frame(file)),
-        (Some(first), None) => with_one(verb, number(first)?),
-        (None, _) => alone(verb),
-    }
-}
-
-fn alone(verb: &str) -> Option<Line<'static>> {
-    match verb {
-        "cells" => Some(Line::Job(JobLine::Cells)),
-        "release" => Some(Line::Job(JobLine::Release)),
-        _ => None,
-    }
-}
-
-fn with_one(verb: &str, number: u64) -> Option<Line<'static>> {
-    match verb {
-        "write-path" => Some(Line::WritePath(number)),
-        "advance" => Some(Line::Job(JobLine::Call(Call::Advance(number)))),
-        "look" => Some(Line::Job(JobLine::Call(Call::Look(number)))),
-        "setpoints" => Some(Line::Job(JobLine::Setpoints(number))),
-        _ => None,
-    }
-}
-
-fn with_two(verb: &str, first: u64, second: u64) -> Option<Line<'static>> {
-    let call = match verb {
-        "make" => return Some(Line::Make(first, second)),
-        "class-cut" => Call::Cut(Make::Classes, first, second),
-        "speed-cut" => Call::Cut(Make::Speeds, first, second),
-        "class-lift" => Call::Lift(Make::Classes, first, second),
-        "speed-lift" => Call::Lift(Make::Speeds, first, second),
+fn call_of<'a>(verb: &str, behind: &[&'a str]) -> Option<Line<'a>> {
+    let call = match (verb, behind) {
+        ("frame", [file]) => return Some(Line::Frame(file)),
+        ("write-path", [length]) => return Some(Line::WritePath(number(length)?)),
+        ("make", [classes, speeds]) => {
+            return Some(Line::Make(number(classes)?, number(speeds)?));
+        }
+        ("cells", []) => return Some(Line::Job(JobLine::Cells)),
+        ("release", []) => return Some(Line::Job(JobLine::Release)),
+        ("setpoints", [length]) => return Some(Line::Job(JobLine::Setpoints(number(length)?))),
+        ("advance", [allowance]) => Call::Advance(number(allowance)?),
+        ("look", [sample]) => Call::Look(number(sample)?),
+        ("class-cut", [sample, value]) => Call::Cut(Make::Classes, number(sample)?, number(value)?),
+        ("speed-cut", [sample, value]) => Call::Cut(Make::Speeds, number(sample)?, number(value)?),
+        ("class-lift", [sample, value]) => Call::Lift(
+            Make::Classes,
+            number(sample)?,
+            number(value)?,
+        ),
+        ("speed-lift", [sample, value]) => Call::Lift(
+            Make::Speeds,
+            number(sample)?,
+            number(value)?,
+        ),
         _ => return None,
     };
     Some(Line::Job(JobLine::Call(call)))
-}
-
-fn is_known(verb: &str) -> bool {
-    match verb {
-        "frame"
-        | "write-path"
-        | "make"
-        | "advance"
-        | "look"
-        | "cells"
-        | "release"
-        | "setpoints"
-        | "class-cut"
-        | "speed-cut"
-        | "class-lift"
-        | "speed-lift" => true,
-        _ => false,
-    }
 }

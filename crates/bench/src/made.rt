@@ -1,0 +1,16 @@
+// A job that was made.
+ghost use Rattle.std.specs.Prelude.{◌≡◌, true};
+ghost use Rattle.frame.specs.Paths.{accepted};
+
+use grade::{Cell, Class, Speed};
+use job::Job;
+
+// A job with the accepted frame that it was made of, and its memories.
+#[derive(Drop)]
+pub struct Made {
+    pub frame: Vec<u8>,
+    pub classes: Vec<Cell<Class>>,
+    pub speeds: Vec<Cell<Speed>>,
+    pub job: Job,
+    ghost is_accepted: { accepted frame.items ≡ true },
+}
