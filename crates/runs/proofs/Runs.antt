@@ -2,7 +2,6 @@
 use Rattle.std.proofs.Common.{◌≡◌, ℕ, ◌<◌, ◌≤◌, ◌⊎◌, List, [], ◌∷◌, ◌++◌, Ok, sym, refl, ◌∙◌, subst, arith}
 use Rattle.runs.specs.declared.stage.Make.{Make}
 use Rattle.runs.specs.declared.stage.Make.TheVariants.{Classes, Speeds}
-use Rattle.runs.specs.declared.stage.Stage.{Stage}
 use Rattle.runs.specs.declared.stage.Stage.TheVariants.{Settled, Impossible}
 use Rattle.runs.specs.declared.stage.Sweep.{Sweep}
 use Rattle.runs.specs.declared.call.Call.{Call}

@@ -7,7 +7,7 @@ use Rattle.grade.proofs.Ranking.{values_ranked}
 use Rattle.limit.specs.Numbers.{Number}
 use Rattle.runs.specs.declared.finding.Finding.{Finding}
 use Rattle.runs.specs.declared.finding.Finding.TheVariants.{Keeps, Lowers, Clashes}
-use Rattle.runs.specs.Sheets.{Sheet, blank, cell, with_value}
+use Rattle.runs.specs.Sheets.{Sheet, blank, cell}
 use Rattle.runs.specs.Evaluations.{found}
 use Rattle.sweep.specs.Visits.{fallen, lowered, Visited}
 
@@ -31,18 +31,10 @@ module _ {G : Type 0} (rank : G → ℕ) (cells : List (Cell G)) (i : ℕ) where
   pub cell_read : (x : Cell G) → x ≡ get_or cells i x → i < length cells → cell (ranked_all rank cells) i ≡ ranked rank x
   cell_read x read h = cell_ranked x h ∙ ap (ranked rank) (sym read)
 
-  -- a value written anew
-  pub value_ranked : (d : Cell G) → i < length cells → (a : G) (v : ℕ) → rank a ≡ v
-      → ranked rank (record { value = a; cap = (get_or cells i d).cap; floor = (get_or cells i d).floor }) ≡ with_value v (cell (ranked_all rank cells) i)
-  value_ranked d h a v e = ap (λ w. with_value w (ranked rank (get_or cells i d))) e ∙ ap (with_value v) (sym (cell_ranked d h))
-
-  pub set_ranked : (y : Cell G) (c : Cell ℕ) → ranked rank y ≡ c → ranked_all rank (set cells i y) ≡ set (ranked_all rank cells) i c
-  set_ranked y c e = map-set (ranked rank) cells i y ∙ ap (set (ranked_all rank cells) i) e
-
   -- a cell that was changed in its place, as f changes its ranks
   pub changed : (d y : Cell G) (f : Cell ℕ → Cell ℕ) → i < length cells → ranked rank y ≡ f (ranked rank (get_or cells i d))
       → ranked_all rank (set cells i y) ≡ set (ranked_all rank cells) i (f (cell (ranked_all rank cells) i))
-  changed d y f h e = set_ranked y (f (cell (ranked_all rank cells) i)) (e ∙ ap f (sym (cell_ranked d h)))
+  changed d y f h e = map-set (ranked rank) cells i y ∙ ap (set (ranked_all rank cells) i) (e ∙ ap f (sym (cell_ranked d h)))
 
   -- a limit of this number gave z at the sample, whose cell became y
   pub visits : (number : Number) (d y : Cell G) (z : ℤ) (r : Finding) → i < length cells → z ≡ number (ranks rank cells) i

@@ -1,9 +1,10 @@
-use Rattle.std.proofs.Common.{◌<◌, length, sym, ap, ◌∙◌, arith}
+use Rattle.std.proofs.Common.{◌≡◌, ◌<◌, min, length, get_or, sym, ap, ◌∙◌, arith}
 use Rattle.std.proofs.lemmas.List.{set-get_or}
-use Rattle.grade.specs.Ranks.{class_rank, speed_rank}
+use Rattle.grade.specs.Ranks.{class_rank, speed_rank, ranked}
+use Rattle.runs.specs.Sheets.{cell, with_value}
 use Rattle.runs.specs.Jobs.{job, fresh}
 use Rattle.runs.specs.declared.stage.Stage.TheVariants.{Impossible}
-use Rattle.sweep.proofs.Reading.{cell_ranked, value_ranked, set_ranked}
+use Rattle.sweep.proofs.Reading.{cell_ranked, changed}
 use Rattle.job.specs.Table.{entry}
 use Rattle.job.specs.Whole.{sheets_of}
 use Rattle.job.proofs.Pours.{pours_stop, pours_more, pours_end}
@@ -24,11 +25,14 @@ loop-at-preserved c =
     let S = sheets_of c.args.classes.now c.loop-at.speeds in
     let h : i < length c.loop-at.speeds = omega arith in
     let class = ap (λ x. entry x.value) (cell_ranked class_rank c.args.classes.now i c.index-classes-at.result (omega arith)) in
-    let speed = cell_ranked speed_rank c.loop-at.speeds i c.index-speeds-at.result h in
+    let old = c.index-speeds-at.result in
+    let speed = cell_ranked speed_rank c.loop-at.speeds i old h in
     let floor = ap (λ x. x.floor) speed in
     let value = ap (λ x. x.value) speed in
+    let entry_of = entry (cell S.classes i).value in
+    let lowered : speed_rank c.lower-speed.result ≡ min (cell S.speeds i).value entry_of = omega arith in
     sym (pours_more entry (length c.args.speeds.now) i S _ c.loop-at-test.true (omega arith)
-    (set_ranked speed_rank c.loop-at.speeds i _ _ (value_ranked speed_rank c.loop-at.speeds i c.index-speeds-at.result h c.lower-speed.result _ (omega arith))))
+    (changed speed_rank c.loop-at.speeds i old _ (with_value (min (cell S.speeds i).value entry_of)) h (ap (λ v. with_value v (ranked speed_rank (get_or c.loop-at.speeds i old))) lowered)))
     ∙ c.loop-at.invariant
 
 pub returns : goal.returns
