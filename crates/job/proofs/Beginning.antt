@@ -1,5 +1,5 @@
 -- Sheets whose values begin at their caps, and the job over them.
-use Rattle.std.proofs.Common.{◌≡◌, ℕ, zero, suc, ◌≤◌, List, [], ◌∷◌, ◌++◌, map, length, take, drop, Ok, Err, Result, IsErrAnd, sym, refl, ap, ◌∙◌, subst, arith}
+use Rattle.std.proofs.Common.{◌≡◌, ℕ, zero, suc, ◌≤◌, List, [], ◌∷◌, ◌++◌, map, length, take, drop, sym, refl, ap, ◌∙◌, subst, arith}
 use Rattle.std.proofs.lemmas.List.{take_at, drop_at, length-map, length-take-le}
 use Rattle.grade.specs.declared.cell.Cell.{Cell}
 use Rattle.grade.specs.declared.class.Class.{Class}
@@ -8,22 +8,21 @@ use Rattle.grade.specs.Profiles.{Within}
 use Rattle.grade.specs.Ranks.{class_rank, speed_rank, ranked, ranked_all}
 use Rattle.grade.specs.Tops.{class_top, speed_top}
 use Rattle.limit.specs.Numbers.{Number}
-use Rattle.runs.specs.declared.call.Fault.{Fault}
 use Rattle.runs.specs.declared.samples.Samples.{Samples}
 use Rattle.runs.specs.declared.stage.Make.{Make}
 use Rattle.runs.specs.declared.stage.Make.TheVariants.{Classes, Speeds}
 use Rattle.runs.specs.declared.stage.Stage.TheVariants.{Working}
 use Rattle.runs.specs.Sheets.{Sheet}
 use Rattle.runs.specs.Jobs.{Job as Whole, job, fresh}
-use Rattle.runs.specs.Calls.{granted, refused}
+use Rattle.runs.specs.Calls.{granted}
 use Rattle.runs.specs.Making.{StartLaw, begun, checked, made}
 use Rattle.runs.specs.Runs.{run}
 use Rattle.runs.specs.Law.{RunLaw}
 use Rattle.sweep.specs.Beginnings.{at_cap}
 use Rattle.job.specs.declared.job.Job.{Job}
 use Rattle.job.specs.Whole.{top_of, whole, setting}
-use Rattle.job.specs.Holding.{held, whole_of, room_for, Led}
-use Rattle.job.specs.Making.{caps_of, floors_of, handed, start_of, opened, Made, Makes}
+use Rattle.job.specs.Holding.{held, whole_of, Led}
+use Rattle.job.specs.Making.{caps_of, floors_of, handed, start_of, opened, Made}
 use Rattle.job.proofs.Acting.{front_length}
 use Rattle.job.proofs.Lawful.{led_lawful}
 use Rattle.job.proofs.Rooms.{room_yes}
@@ -125,9 +124,3 @@ module _ (samples : Samples) (cs cs' : List (Cell Class)) (ss ss' : List (Cell S
         subst (λ s. RunLaw (setting s.count a b) (start_of n cs ss) [] (whole_of (held j (cs' ++ drop n cs) (ss' ++ drop n ss)))) samples_are
         (led_lawful a b a_law b_law (start_of n cs ss) [] (held j (cs' ++ drop n cs) (ss' ++ drop n ss)) (led sweep stage a b));
   }
-
--- a making that the memory's questions refuse changes nothing
-pub unmakes : (samples : Samples) (cs : List (Cell Class)) (ss : List (Cell Speed)) (r : Result Job Fault) (f : Fault) → IsErrAnd r (λ e. e ≡ f)
-    → refused f ≡ room_for samples.count (length cs) (length ss) granted → Makes samples cs cs ss ss r
-unmakes samples cs ss (Ok j) f is no_is = absurd is
-unmakes samples cs ss (Err e) f is no_is = record { fault = ap refused is ∙ no_is; same_classes = refl; same_speeds = refl }

@@ -1,5 +1,6 @@
 -- Cells from their own ranks are the same cells.
-use Rattle.std.proofs.Common.{◌≡◌, ℕ, ◌≤◌, min, List, [], ◌∷◌, refl, ap, ◌∙◌, arith}
+use Rattle.std.proofs.Common.{◌≡◌, ℕ, ◌≤◌, min, List, [], ◌∷◌, refl, ap, ◌∙◌}
+use Rattle.std.proofs.Math.Nat.{min-eq_left}
 use native.Mathlib.Bridge.{le_prop}
 use mathlib.Core.HLevel.{is_prop→PathP}
 use Rattle.grade.specs.declared.cell.Cell.{Cell}
@@ -9,17 +10,14 @@ use Rattle.grade.specs.Ranks.{class_rank, speed_rank, ranked_all}
 use Rattle.grade.specs.Tops.{class_top, speed_top}
 use Rattle.job.specs.Grades.{class_of, speed_of, cells_of}
 
-capped : (k top : ℕ) → k ≤ top → min k top ≡ k
-capped k top h = omega arith
-
 pub class_is : (x : Class) → class_of (class_rank x) ≡ x
 class_is x =
-    let e : min x.value class_top ≡ x.value = capped x.value class_top x.ok in
+    let e : min x.value class_top ≡ x.value = min-eq_left x.ok in
     λ i. record { value = e i; ok = is_prop→PathP (λ j. e j ≤ class_top) (λ j. le_prop) (class_of x.value).ok x.ok i }
 
 pub speed_is : (x : Speed) → speed_of (speed_rank x) ≡ x
 speed_is x =
-    let e : min x.value speed_top ≡ x.value = capped x.value speed_top x.ok in
+    let e : min x.value speed_top ≡ x.value = min-eq_left x.ok in
     λ i. record { value = e i; ok = is_prop→PathP (λ j. e j ≤ speed_top) (λ j. le_prop) (speed_of x.value).ok x.ok i }
 
 module _ {G : Type 0} (rank : G → ℕ) (of : ℕ → G) (same : (x : G) → of (rank x) ≡ x) where

@@ -16,7 +16,8 @@ use sweep::{FRESH, Outcome, sweep_step};
 // That a sheet is as long as there are samples is required by `follow`, `step` and `work`, and is no struct's: it would hold
 // the job and both sheets by `&mut`, and each clause would read through one reference more.
 impl Job {
-    // What follows from the outcome of an evaluation at a sample, whose value has fallen already.
+    // What follows from the outcome of an evaluation at a sample, whose value has fallen already: a match on where the job
+    // stands and what came, in place of closures, since the definition in the contract has the same cases.
     fn follow(
         &mut self,
         at: usize,

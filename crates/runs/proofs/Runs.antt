@@ -41,10 +41,14 @@ settled_greatest σ b w S (f, ((classes, table), speeds)) = record {
     both Classes = classes
     both Speeds = speeds
 
+pub run-append : (σ : Setting) (xs ys : List Call) (j : Job) → run σ (xs ++ ys) j ≡ run σ ys (run σ xs j)
+unfolding run
+run-append σ [] ys j = refl
+run-append σ (x ∷ xs) ys j = run-append σ xs ys (called σ x j)
+
 pub run_more : (σ : Setting) (cs : List Call) (c : Call) (j : Job) → run σ (cs ++ (c ∷ [])) j ≡ called σ c (run σ cs j)
 unfolding run
-run_more σ [] c j = refl
-run_more σ (d ∷ cs) c j = run_more σ cs c (called σ d j)
+run_more σ cs c j = run-append σ cs (c ∷ []) j
 
 module _ (σ : Setting) (law : SettingLaw σ) (s : Start) (start : StartLaw σ s) where
   stands : (cs : List Call) → Stands σ (in_force σ s cs) (after σ s cs)

@@ -12,7 +12,7 @@ use Rattle.runs.specs.Jobs.{Job as Whole}
 use Rattle.runs.specs.Making.{made}
 use Rattle.runs.specs.Calls.{granted, refused, called, answered}
 use Rattle.runs.specs.Runs.{run, answers}
-use Rattle.runs.proofs.Runs.{run_more}
+use Rattle.runs.proofs.Runs.{run-append, run_more}
 use Rattle.job.specs.Whole.{setting}
 use Rattle.job.specs.Holding.{Held, whole_of, setting_of, room, judged}
 use Rattle.job.specs.Calling.{Holds, Does, Lawful}
@@ -29,11 +29,6 @@ pub length-answers : (σ : Setting) (cs : List Call) (j : Whole) → length (ans
 unfolding answers
 length-answers σ [] j = refl
 length-answers σ (c ∷ cs) j = ap suc (length-answers σ cs (called σ c j))
-
-run-append : (σ : Setting) (xs ys : List Call) (j : Whole) → run σ (xs ++ ys) j ≡ run σ ys (run σ xs j)
-unfolding run
-run-append σ [] ys j = refl
-run-append σ (x ∷ xs) ys j = run-append σ xs ys (called σ x j)
 
 -- one place more is written
 pub fill_more : {X : Type 0} (xs ys : List X) (i : ℕ) (v : X) → length xs ≡ i → i < length ys

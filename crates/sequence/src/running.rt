@@ -10,7 +10,8 @@ use limit::{Limit, lawful};
 use runs::{Answer, Call, Fault};
 
 // Makes the calls in order and writes the answer of each into its place; says how many were made. A call for whose
-// answer there is no place is not made. Where a memory is too short for the job, none is.
+// answer there is no place is not made. Where a memory is too short for the job, none is. The answers are written into the
+// caller's memory, beside calls that are only read, since a library has no heap to make them in.
 pub fn run<C: Limit<Class>, S: Limit<Speed>>(
     job: &mut Job,
     classes: &mut [Cell<Class>],
