@@ -1,26 +1,20 @@
 -- What a reading of a sample says of it.
-use Rattle.std.proofs.Common.{◌≡◌, ℕ, ◌+◌, ◌*◌, ◌<◌, ◌≤◌, true, leb, List, length, get_or, Some, None, Ok, Err, Option, Result, sym, ap, ◌∙◌, subst, arith}
+use Rattle.std.proofs.Common.{◌≡◌, ℕ, ◌+◌, ◌*◌, ◌<◌, ◌≤◌, true, List, length, get_or, Some, Ok, Option, sym, ap, ◌∙◌, subst, arith}
 use Rattle.grade.specs.Tops.{speed_top}
 use Rattle.record.specs.declared.sample.Sample.{Sample}
 use Rattle.record.specs.declared.sample.SampleWords.{SampleWords}
 use Rattle.record.specs.Samples.{sample_words_at}
-use Rattle.clause.proofs.Questions.{passed, passed_within}
 use Rattle.record.proofs.RecordTrips.{SampleAsked}
 use Rattle.frame.specs.declared.header.Header.{Header}
-use Rattle.frame.specs.declared.fault.FrameFault.{FrameFault}
 use Rattle.frame.specs.Layout.{samples_at}
-use Rattle.frame.specs.Paths.{Path, header_of, path_read, accepted}
-use Rattle.frame.specs.Views.{shown, path_of, nth, CapOf, CapShown}
+use Rattle.frame.specs.Paths.{accepted}
+use Rattle.frame.specs.Views.{path_of, nth, CapOf, CapShown}
 use Rattle.frame.proofs.Accepted.{yes'}
 use Rattle.frame.proofs.InPlace.{sample_found}
 use Rattle.sources.specs.Soundness.{nth-slice_index_or}
 use Rattle.sources.proofs.Counted.{samples_counted}
-use Rattle.planner.specs.declared.fault.MakeFault.TheVariants.{Frame, NoClassMemory, NoSpeedMemory}
-use Rattle.planner.specs.Asking.{asked}
 use Rattle.planner.specs.Starts.{no_sample_of, clause_cap, cap_of, SampleWithin}
 use Rattle.planner.proofs.Caps.{clause_cap_lem, cap_within, fixed_within}
-
--- ---- a sample
 
 sample_within : (w : SampleWords) (s : Sample) → SampleAsked w s → SampleWithin s
 sample_within w s a = subst SampleWithin a.is (record { class_cap_fits = a.class_cap_fits; class_floor_fits = a.class_floor_fits; speed_floor_fits = a.speed_floor_fits; fixed = λ n e. fixed_within w.clause n (a.clause ∙ ap Ok e) })
@@ -34,9 +28,6 @@ module _ (bs : List ℕ) (e : accepted bs ≡ true) (i : ℕ) (l : i < length (p
       let f = sample_found bs e i (omega arith) in
       (f.0, sample_within (sample_words_at bs (samples_at + 20 * i)) f.0 f.1, f.2)
 
-  pub no_sample_lem : None ≡ nth (path_of bs).samples i → ⊥
-  no_sample_lem n = let f = found in let g = f.2 in let z : ◌≡◌ {A = ℕ} 0 1 = cc in omega arith
-
   pub sample_read_lem : (s : Sample) → Some s ≡ nth (path_of bs).samples i → (s ≡ get_or (path_of bs).samples i no_sample_of) × SampleWithin s
   sample_read_lem s n =
       let f = found in
@@ -44,27 +35,9 @@ module _ (bs : List ℕ) (e : accepted bs ≡ true) (i : ℕ) (l : i < length (p
       let z : f.0 ≡ s = cc in
       (sym (nth-slice_index_or (path_of bs).samples i s no_sample_of (sym n)), subst SampleWithin z f.1)
 
-  pub no_cap : CapShown (path_of bs) i None → ⊥
-  no_cap c = let f = found in subst (λ (o : Option Sample). CapOf (path_of bs).header.lateral o None) f.2 c
-
   pub cap_read : (w : ℕ) → CapShown (path_of bs) i (Some w) → (w ≡ cap_of (path_of bs) i) × (w ≤ speed_top)
   cap_read w c =
       let f = found in
       let a = (path_of bs).header.lateral in
       let d = subst (λ (o : Option Sample). CapOf a o (Some w)) f.2 c in
       (clause_cap_lem f.0.clause a w d ∙ sym (ap (λ (s : Sample). clause_cap a s.clause) (nth-slice_index_or (path_of bs).samples i f.0 no_sample_of f.2)), cap_within f.0.clause a w f.1.fixed d)
-
--- ---- the header
-
-header_shown : (bs : List ℕ) (r : Result Path FrameFault) (h : Header) → header_of r ≡ Ok h → h ≡ (shown bs r).header
-header_shown bs (Ok p) h e = cc
-header_shown bs (Err f) h e = absurd (let z : ◌≡◌ {A = ℕ} 0 1 = cc in omega arith)
-
--- where every question says yes, the header is the path's
-pub asked_header : (bs : List ℕ) (k l : ℕ) (h : Header) → asked bs k l ≡ Ok h → asked bs k l ≡ Ok (path_of bs).header
-asked_header bs k l h e =
-    let a = passed_within Frame (header_of (path_read bs)) _ h e in
-    let b = passed (leb a.0.samples k) NoClassMemory _ h a.2 in
-    let c = passed (leb a.0.samples l) NoSpeedMemory _ h b.1 in
-    let z : a.0 ≡ h = (let y = c.1 in cc) in
-    e ∙ ap (λ (x : Header). Ok x) (sym z ∙ header_shown bs (path_read bs) a.0 a.1)

@@ -17,6 +17,10 @@ module _ {G : Type 0} (rank : G → ℕ) (cells : List (Cell G)) (sheet : List (
       ∙ ap (λ (x : Cell ℕ). take i sheet ++ (x ∷ [])) is
       ∙ sym (take_more sheet i no_cell m)
 
+-- a place among the first cells is that of a sample; c counts them as the header does, and k as the path
+pub in_front : {G : Type 0} (cells : List G) (c n k i : ℕ) → c ≡ n → n ≡ k → n ≤ length cells → i < length (take c cells) → i < k
+in_front cells c n k i c_is n-is room h = omega (arith, length-take-le c cells (omega arith))
+
 -- all of them, with the rest of the memory behind them; n is how many there are, and the loop came to i
 pub filled : {G : Type 0} (rank : G → ℕ) (sheet : List (Cell ℕ)) (cells front : List (Cell G)) (n i : ℕ) → n ≤ length cells → length sheet ≡ n → length front ≡ length (take n cells) → length (take n cells) ≤ i
     → ranked_all rank (take i front) ≡ take i sheet → Filled rank sheet cells (front ++ drop n cells)

@@ -5,6 +5,7 @@ ghost use Rattle.planner.specs.Starts.{Filled};
 
 use super::cells::FromSample;
 use super::making::samples;
+use super::place::SamplePlace;
 use frame::PathFrame;
 use grade::{Cell, Grade};
 
@@ -14,6 +15,6 @@ pub(crate) fn fill<G: FromSample>(frame: PathFrame<'_>, cells: &mut [Cell<G>])
 {
     let front = &mut cells[..samples(frame).count];
     for (at, cell) in front.iter_mut().enumerate() {
-        *cell = G::cell_of(frame, at);
+        *cell = G::cell_of(SamplePlace { frame, at });
     }
 }

@@ -7,6 +7,7 @@ mod cells;
 mod fault;
 mod filling;
 mod making;
+mod place;
 mod planning;
 
 pub use asking::ask;
