@@ -1,13 +1,10 @@
-use Rattle.std.proofs.Common.{length, map, refl, ◌∙◌, sym, arith}
+use Rattle.std.proofs.Common.{length, map, ◌∙◌, sym, arith}
 use Rattle.std.proofs.lemmas.List.{length-map, get_or-map}
 use Rattle.frame.specs.Views.{path_of}
 use Rattle.sources.proofs.Counted.{samples_counted}
 use Rattle.planner.specs.Starts.{no_sample_of, no_cell}
 use Rattle.planner.proofs.Fills.{filled_more, filled, in_front}
 use Rattle.planner.proofs.filling.fill.Goals as goal
-
-pub loop-at-init : goal.loop-at-init
-loop-at-init g c = refl
 
 pub invariant_of-cell_of : goal.invariant_of-cell_of
 invariant_of-cell_of g c =

@@ -1,15 +1,11 @@
 use Rattle.std.proofs.Common.{arith, ◌+◌, ◌*◌, length, take, sym, ap, ◌∙◌}
 use Rattle.std.proofs.lemmas.List.{length_push}
 use Rattle.words.specs.Words.{written}
-use Rattle.words.proofs.Writes.{nothing}
 use Rattle.grade.specs.Ranks.{class_rank, speed_rank}
 use Rattle.setpoint.specs.Frames.{profile, setpoints}
 use Rattle.setpoint.proofs.Framing.{profile_at, turn, done}
 use Rattle.setpoint.proofs.Turns.{turned, ended}
 use Rattle.setpoint.proofs.released.Released.put_setpoints.Goals as goal
-
-pub loop-i-init : goal.loop-i-init
-loop-i-init c = nothing c.args.out.now 7
 
 pub loop-i-preserved : goal.loop-i-preserved
 loop-i-preserved c =
