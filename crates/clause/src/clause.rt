@@ -6,6 +6,7 @@ ghost use Rattle.clause.specs.Clauses.{speed_read, clause_read, clause_words, Le
 use super::bits::{is_finite, is_negative, number, pattern};
 use super::kind::ClauseKind;
 use caps::{MOST, bend_cap, speed_cap};
+use thiserror::Error;
 
 // A bend: a top speed in m/s and a signed curvature in 1/m.
 #[derive(Clone, Copy, Debug, PartialEq)]
@@ -34,8 +35,9 @@ pub struct ClauseWords {
     pub second: u32,
 }
 
-// A number that does not fit the clause's kind.
-#[derive(Clone, Copy, Debug, PartialEq, Eq)]
+// A number that does not fit the clause's kind. All are faults of one question, which asks this.
+#[derive(Clone, Copy, Debug, PartialEq, Eq, Error)]
+#[error("the two numbers must fit the kind: a top speed finite and not below zero, a curvature finite, a fixed cap at most 2147483647, an unused number zero")]
 pub enum ClauseFault {
     TopSpeedNotFinite,
     TopSpeedNegative,

@@ -1,6 +1,5 @@
-// Clauses and their faults in words.
-use super::clause::{CapClause, ClauseFault};
-use std::error::Error;
+// Clauses in words.
+use super::clause::CapClause;
 use std::fmt;
 
 impl fmt::Display for CapClause {
@@ -17,15 +16,3 @@ impl fmt::Display for CapClause {
         }
     }
 }
-
-// All are faults of one question, which asks this.
-impl fmt::Display for ClauseFault {
-    fn fmt<W: fmt::Write>(&self, f: &mut fmt::Formatter<W>) -> fmt::Result {
-        write!(
-            f,
-            "the two numbers must fit the kind: a top speed finite and not below zero, a curvature finite, a fixed cap at most 2147483647, an unused number zero"
-        )
-    }
-}
-
-impl Error for ClauseFault {}

@@ -2,8 +2,7 @@
 ghost use Rattle.std.specs.Prelude.{◌≡◌};
 ghost use Rattle.clause.specs.Kinds.{Decodes, number_of};
 
-use std::error::Error;
-use std::fmt;
+use thiserror::Error;
 
 /// A kind of cap clause. Frames number the kinds from 0, in this order.
 #[derive(Clone, Copy, Debug, PartialEq, Eq)]
@@ -15,7 +14,8 @@ pub enum ClauseKind {
 }
 
 /// A number that is no kind's.
-#[derive(Clone, Copy, Debug, PartialEq, Eq)]
+#[derive(Clone, Copy, Debug, PartialEq, Eq, Error)]
+#[error("no kind of cap clause has the number {0}")]
 pub struct UnknownKind(pub u8);
 
 impl TryFrom<u8> for ClauseKind {
@@ -46,11 +46,3 @@ impl From<ClauseKind> for u8 {
         }
     }
 }
-
-impl fmt::Display for UnknownKind {
-    fn fmt<W: fmt::Write>(&self, f: &mut fmt::Formatter<W>) -> fmt::Result {
-        write!(f, "no kind of cap clause has the number {}", self.0)
-    }
-}
-
-impl Error for UnknownKind {}

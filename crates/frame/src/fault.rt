@@ -3,26 +3,34 @@ ghost use Rattle.std.specs.Prelude.{◌≡◌};
 ghost use Rattle.frame.specs.declared.fault.FrameFault.TheVariants.{Sample, Gap, Row};
 
 use record::{GapFault, RecordFault, RowFault, SampleFault};
-use std::error::Error;
-use std::fmt;
+use thiserror::Error;
 
-#[derive(Clone, Copy, Debug, PartialEq, Eq)]
+/// Each fault prints what the question that said no asks.
+#[derive(Clone, Copy, Debug, PartialEq, Eq, Error)]
 pub enum FrameFault {
-    // Fewer than five bytes.
+    #[error("a frame has at least 5 bytes: its version and its length")]
     TooShort,
+    #[error("the version, byte 0, must be 1")]
     Version,
-    // The length is not the count of bytes behind it.
+    #[error("the length must be the count of the bytes behind it")]
     Length,
-    // The length leaves no room for the body's own fields.
+    #[error("the length must be at least 10, for the body's own fields")]
     ShortBody,
+    #[error("a path must have 2 to 4096 samples")]
     SampleCount,
+    #[error("the spacing h must be at least 1")]
     Spacing,
+    #[error("the lateral number a must be at most 2147483647")]
     Lateral,
+    #[error("there may be at most 8192 torque rows")]
     RowCount,
-    // The length is not that of so many records.
+    #[error("the length must be that of so many samples, gaps and torque rows")]
     Size,
+    #[error("{}", .0.fault)]
     Sample(RecordFault<SampleFault>),
+    #[error("{}", .0.fault)]
     Gap(RecordFault<GapFault>),
+    #[error("{}", .0.fault)]
     Row(RecordFault<RowFault>),
 }
 
@@ -50,34 +58,3 @@ impl From<RecordFault<RowFault>> for FrameFault {
         FrameFault::Row(fault)
     }
 }
-
-// What the question that said no asks.
-impl fmt::Display for FrameFault {
-    fn fmt<W: fmt::Write>(&self, f: &mut fmt::Formatter<W>) -> fmt::Result {
-        match *self {
-            FrameFault::TooShort => write!(
-                f,
-                "a frame has at least 5 bytes: its version and its length"
-            ),
-            FrameFault::Version => write!(f, "the version, byte 0, must be 1"),
-            FrameFault::Length => write!(f, "the length must be the count of the bytes behind it"),
-            FrameFault::ShortBody => write!(
-                f,
-                "the length must be at least 10, for the body's own fields"
-            ),
-            FrameFault::SampleCount => write!(f, "a path must have 2 to 4096 samples"),
-            FrameFault::Spacing => write!(f, "the spacing h must be at least 1"),
-            FrameFault::Lateral => write!(f, "the lateral number a must be at most 2147483647"),
-            FrameFault::RowCount => write!(f, "there may be at most 8192 torque rows"),
-            FrameFault::Size => write!(
-                f,
-                "the length must be that of so many samples, gaps and torque rows"
-            ),
-            FrameFault::Sample(found) => found.fault.fmt(f),
-            FrameFault::Gap(found) => found.fault.fmt(f),
-            FrameFault::Row(found) => found.fault.fmt(f),
-        }
-    }
-}
-
-impl Error for FrameFault {}

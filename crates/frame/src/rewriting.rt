@@ -7,17 +7,19 @@ use super::fault::FrameFault;
 use super::reading::read;
 use super::view::PathFrame;
 use super::writing::WriteFault;
-use std::error::Error;
-use std::fmt;
+use thiserror::Error;
 
 /// Why a frame was not written again.
-#[derive(Clone, Copy, Debug, PartialEq, Eq)]
+#[derive(Clone, Copy, Debug, PartialEq, Eq, Error)]
 pub enum RewriteFault {
     // The reader refuses the bytes.
+    #[error(transparent)]
     Frame(FrameFault),
-    // The memory is shorter than the frame.
+    #[error("the memory is shorter than the frame")]
     Memory,
 }
+
+// By hand, as in every crate here: contracts name the variant that each conversion gives, which a derived one does not say.
 
 impl From<FrameFault> for RewriteFault {
     ghost from_gives = { λ e r. r ≡ Frame e };
@@ -36,17 +38,6 @@ impl From<WriteFault> for RewriteFault {
         }
     }
 }
-
-impl fmt::Display for RewriteFault {
-    fn fmt<W: fmt::Write>(&self, f: &mut fmt::Formatter<W>) -> fmt::Result {
-        match self {
-            RewriteFault::Frame(refused) => refused.fmt(f),
-            RewriteFault::Memory => WriteFault::Memory.fmt(f),
-        }
-    }
-}
-
-impl Error for RewriteFault {}
 
 /// Reads a path frame and writes its records into memory; a refusal, of the frame or for want of memory, changes nothing.
 pub fn rewrite(bytes: &[u8], out: &mut [u8]) -> Result<usize, RewriteFault>

@@ -7,14 +7,13 @@ use super::layout;
 use super::records::put_records;
 use super::view::PathFrame;
 use record::{Gap, Sample, TorqueRow};
-use std::error::Error;
-use std::fmt;
+use thiserror::Error;
 use words::{put, see_bytes};
 
 /// Why a frame was not written.
-#[derive(Clone, Copy, Debug, PartialEq, Eq)]
+#[derive(Clone, Copy, Debug, PartialEq, Eq, Error)]
 pub enum WriteFault {
-    // The memory is shorter than the frame.
+    #[error("the memory is shorter than the frame")]
     Memory,
 }
 
@@ -31,16 +30,6 @@ impl WriteFault {
         }
     }
 }
-
-impl fmt::Display for WriteFault {
-    fn fmt<W: fmt::Write>(&self, f: &mut fmt::Formatter<W>) -> fmt::Result {
-        match self {
-            WriteFault::Memory => write!(f, "the memory is shorter than the frame"),
-        }
-    }
-}
-
-impl Error for WriteFault {}
 
 impl PathFrame<'_> {
     /// Writes the records into memory: the frame's bytes in front, the rest untouched; or too little memory, and nothing changes.

@@ -24,7 +24,7 @@ impl From<FrameFault> for MakeFault {
     }
 }
 
-// What the question that said no asks.
+// What the question that said no asks. By hand, since the two faults of memory share a sentence.
 impl fmt::Display for MakeFault {
     fn fmt<W: fmt::Write>(&self, f: &mut fmt::Formatter<W>) -> fmt::Result {
         match self {

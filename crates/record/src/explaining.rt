@@ -1,4 +1,5 @@
-// Each fault of a record in words: what the question that said no asks.
+// Each fault of a record in words: what the question that said no asks. By hand and not derived, since the faults of one
+// question share its sentence.
 use super::gap::GapFault;
 use super::row::RowFault;
 use super::sample::SampleFault;
