@@ -8,110 +8,51 @@ import struct
 import subprocess
 import sys
 import tempfile
-from fractions import Fraction
 from pathlib import Path
 
-from compare_frames import MOST, PROGRAM, half, refusal, signed, word
-
-TABLE = [0, 4096, 16384, 65536, 147456, 262144, 1048576, MOST]
-
-
-def size(bits):
-    """The size of a finite binary32 pattern, exactly."""
-    e, f = bits % 2**31 // 2**23, bits % 2**23
-    return Fraction((f if e == 0 else 2**23 + f) * 2**max(e - 1, 0), 2**149)
+from compare_frames import MOST, PROGRAM, refusal
+from planner_model import CLASSES, SPEEDS, TABLE, Job
 
 
-def cap(kind, first, second, a):
-    if kind == 0:
-        return MOST
-    if kind == 3:
-        return first
-    most = min(MOST, int(size(first) ** 2 * 65536))
-    if kind == 2 and size(second):
-        most = min(most, int(Fraction(a) / size(second)))
-    return most
-
-
-class Job:
-    """The job of a frame: classes first, then the pour, then speeds."""
+class Plan(Job):
+    """A job planned whole: sweep after sweep on the classes, the pour, then sweep after sweep on the speeds."""
 
     def __init__(self, data):
-        n, self.h, a, t = struct.unpack(">HHIH", data[5:15])
-        self.n = n
-        at = [15 + 20 * i for i in range(n)]
-        self.caps = [[data[o + 1] for o in at], [cap(data[o], word(data, o + 4), word(data, o + 8), a) for o in at]]
-        self.floors = [[data[o + 2] for o in at], [word(data, o + 12) for o in at]]
-        self.q = [signed(data, o + 16) for o in at]
-        gaps = [15 + 20 * n + 12 * i for i in range(n - 1)]
-        self.steps = [[(data[o], data[o + 1]) for o in gaps], [(word(data, o + 4), word(data, o + 8)) for o in gaps]]
-        start = 15 + 20 * n + 12 * (n - 1)
-        self.rows = [(half(data, start + 24 * k), *(signed(data, start + 24 * k + 4 + 4 * j) for j in range(5))) for k in range(t)]
-        self.values = [list(caps) for caps in self.caps]
+        super().__init__(data)
         self.evaluations = self.lowerings = 0
-        self.found = None
-        for make in (0, 1):
-            for i in range(n):
-                if self.found is None and self.floors[make][i] > self.caps[make][i]:
-                    self.found = i
 
-    def number(self, make, i):
-        top = (7, MOST)[make]
-        v, least = self.values[make], top
-        if i > 0:
-            least = min(least, v[i - 1] + self.steps[make][i - 1][0])
-        if i + 1 < self.n:
-            least = min(least, v[i + 1] + self.steps[make][i][1])
-        if make == 0:
-            return least
-        if 0 < i < self.n - 1:
-            least = min(least, max(-1, (v[i - 1] + v[i + 1] + self.q[i]) // 2))
-        for at, d, c, g, lo, hi in self.rows:
-            e = d - 2 * self.h * c
-            up, down = 2 * self.h * (hi - g), 2 * self.h * (g - lo)
-            if d < 0:
-                up, down = down, up
-            if at + 1 == i:
-                least = min(least, max(-1, (abs(e) * v[at] + up) // abs(d)))
-            if at == i:
-                least = min(least, max(-1, (abs(d) * v[at + 1] + down) // abs(e)))
-        return least
-
-    def sweep(self, make, rising):
+    def sweep(self, sheet, rising):
         """Whether a sweep lowered anything; None where it found the job impossible."""
         marked = False
         for i in range(self.n) if rising else reversed(range(self.n)):
             self.evaluations += 1
-            number = self.number(make, i)
-            if number < self.floors[make][i]:
+            number = self.number(sheet, i)
+            if number < self.floors[sheet][i]:
                 self.found = i
                 return None
-            if number < self.values[make][i]:
-                self.values[make][i] = number
+            if number < self.values[sheet][i]:
+                self.values[sheet][i] = number
                 self.lowerings += 1
                 marked = True
         return marked
 
-    def settle(self, make):
+    def settle(self, sheet):
         rising = True
-        while True:
-            marked = self.sweep(make, rising)
-            if not marked:
-                return
+        while self.sweep(sheet, rising):
             rising = not rising
 
     def run(self):
         if self.found is None:
-            self.settle(0)
+            self.settle(CLASSES)
         if self.found is None:
             for i in range(self.n):
-                entry = TABLE[self.values[0][i]]
-                if entry < self.floors[1][i]:
+                entry = TABLE[self.values[CLASSES][i]]
+                if entry < self.floors[SPEEDS][i]:
                     self.found = i
                     break
-                self.values[1][i] = min(self.values[1][i], entry)
+                self.values[SPEEDS][i] = min(self.values[SPEEDS][i], entry)
         if self.found is None:
-            self.settle(1)
+            self.settle(SPEEDS)
 
 
 def path(rng):
@@ -141,7 +82,7 @@ def path(rng):
 
 
 def wanted(data):
-    job = Job(data)
+    job = Plan(data)
     job.run()
     if job.found is not None:
         return [f"impossible: no table keeps every limit and every floor; found at sample {job.found}"]

@@ -1,6 +1,8 @@
 // A job advanced cycle by cycle until its work ends, with a line for each cycle.
-ghost use Rattle.std.specs.Prelude.{◌≡◌, ◌+◌, min, max};
+ghost use Rattle.std.specs.Prelude.{◌≡◌, ◌↔◌, ◌⊎◌, ◌+◌, ◌≤◌, min, max, IsTrue};
 ghost use Rattle.runs.specs.declared.call.Call.TheVariants.{Advance};
+ghost use Rattle.runs.specs.declared.reply.Progress.{Progress};
+ghost use Rattle.runs.specs.declared.reply.Reply.TheVariants.{Advanced};
 
 use super::answering::State;
 use super::counts::Count;
@@ -59,7 +61,9 @@ fn next_piece(left: u64, made: u64) -> Call
 }
 
 // What an advance came to, from its answer; a refused one came to nothing at the stage that the job stands at.
-pub fn progress_of(answer: Answer, stage: Stage) -> Progress {
+pub fn progress_of(answer: Answer, stage: Stage) -> Progress
+    ensures { (p : Progress) → answer ≡ Ok (Advanced p) → result ≡ p }
+{
     match answer {
         Ok(Reply::Advanced(progress)) => progress,
         Ok(Reply::Done | Reply::Seen(_)) | Err(_) => idle(stage),
@@ -90,15 +94,14 @@ fn joined(came: Progress, piece: Progress) -> Progress
 }
 
 fn is_over(stage: Stage) -> bool {
-    match stage {
-        Stage::Working(_) => false,
-        Stage::Settled | Stage::Impossible(_) => true,
-    }
+    !matches!(stage, Stage::Working(_))
 }
 
 // Is it time for a line about the last so many of all cycles?
-fn is_due(all: u64, untold: u64) -> bool {
-    all <= TOLD_ONE_BY_ONE || untold >= all - untold.min(all)
+fn is_due(all: u64, untold: u64) -> bool
+    ensures { IsTrue result ↔ ((all ≤ TOLD_ONE_BY_ONE) ⊎ (all ≤ untold + untold)) }
+{
+    all <= TOLD_ONE_BY_ONE || untold >= all.saturating_sub(untold)
 }
 
 // A job at work, with the allowance of evaluations for each of its cycles, at least 1.

@@ -1,4 +1,6 @@
 // A job at hand, with the frame that it was made of and its memories.
+ghost use Rattle.std.specs.Prelude.{◌≡◌, take};
+
 use frame::PathFrame;
 use grade::{Cell, Class, Speed};
 use job::{Job, Limits};
@@ -34,7 +36,9 @@ impl Live<'_> {
     }
 
     // Of a memory of this job, the cells of the samples, or all where there are fewer.
-    pub fn of_samples<'c, G>(&self, cells: &'c [Cell<G>]) -> &'c [Cell<G>] {
+    pub fn of_samples<'c, G>(&self, cells: &'c [Cell<G>]) -> &'c [Cell<G>]
+        ensures { result.now ≡ take self.now.job.samples.count cells.now }
+    {
         &cells[..self.job.samples().count.min(cells.len())]
     }
 }

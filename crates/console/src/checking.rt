@@ -28,6 +28,7 @@ fn print_header(rt: &HostRuntime, header: Header) -> io::Result<()> {
     println!(rt; "spacing h = {spacing}, lateral number a = {lateral} (in 1/65536 m/s²)")
 }
 
+// A view of a frame hands out each record, and the cap of each sample, by its number: so the loops here and below count.
 fn print_samples(rt: &HostRuntime, frame: &PathFrame<'_>, count: usize) -> io::Result<()> {
     println!(rt;
         "sample  class floor..cap  speed floor..cap (in 1/65536 m²/s²)          q  clause"

@@ -1,6 +1,7 @@
 // Why a command stops before its end, and the status of the program then.
 ghost use Rattle.std.specs.Prelude.{◌≡◌};
 ghost use Rattle.anyhow.specs.declared.error.Error.{Error};
+ghost use Rattle.console.specs.declared.stop.Stop.TheVariants.{Other};
 
 use std::alloc::{AllocError, AllocFailed};
 use std::process::ExitCode;
@@ -15,24 +16,32 @@ pub enum Stop {
 }
 
 impl From<anyhow::Error> for Stop {
+    ghost from_gives = { λ e r. r ≡ Other e };
+
     fn from(error: anyhow::Error) -> Stop {
         Stop::Other(error)
     }
 }
 
 impl From<io::Error> for Stop {
+    ghost from_gives = { λ _ r. (e : Error) × r ≡ Other e };
+
     fn from(error: io::Error) -> Stop {
         Stop::Other(error.into())
     }
 }
 
 impl From<AllocError> for Stop {
+    ghost from_gives = { λ _ r. (e : Error) × r ≡ Other e };
+
     fn from(error: AllocError) -> Stop {
         Stop::Other(error.into())
     }
 }
 
 impl<T: Drop> From<AllocFailed<T>> for Stop {
+    ghost from_gives = { λ _ r. (e : Error) × r ≡ Other e };
+
     fn from(failed: AllocFailed<T>) -> Stop {
         Stop::Other(AllocError::from(failed).into())
     }
