@@ -55,13 +55,8 @@ impl Handler for Live<'_> {
     }
 }
 
-// A job that was released and is spent.
-#[derive(Drop)]
-struct Spent<'a> {
-    released: Released<'a>,
-}
-
-impl Handler for Spent<'_> {
+// The job was released and is spent.
+impl Handler for Released<'_> {
     type Parting = Infallible;
 
     fn answer(&mut self, rt: &HostRuntime, line: JobLine) -> Result<ControlFlow<Infallible>, Stop> {
@@ -72,7 +67,7 @@ impl Handler for Spent<'_> {
             ));
         };
         let mut memory = lend(rt, length)?;
-        match self.released.write_setpoints(memory.as_mut_slice()) {
+        match self.write_setpoints(memory.as_mut_slice()) {
             Ok(size) => print_written(rt, size, memory.as_slice())?,
             Err(fault) => print_refused(rt, fault.number())?,
         }
@@ -122,8 +117,6 @@ fn after_release(
         return Err(Stop::Reported);
     }
     println!(rt; "released")?;
-    let mut spent = Spent {
-        released: release(job, classes.as_slice(), speeds.as_slice()),
-    };
+    let mut spent = release(job, classes.as_slice(), speeds.as_slice());
     Ok(only_made(script.run(rt, &mut spent)?))
 }
