@@ -15,7 +15,8 @@ use grade::{Cell, Class, Speed};
 use limit::Limit;
 use motion::{Offsets, Ramp, Rows, SpeedLimit, Steps};
 
-// The cap, and the two halves of the ramp.
+// The cap, and the two halves of the ramp. Apart from the next, since a class has no class table, average or rows; the
+// question, limit, cells and number are handed on as they came, through calls that each add a bound.
 pub(crate) fn first_in_classes<S: Steps>(
     question: Question,
     cap: Class,

@@ -19,7 +19,7 @@ pub enum Bound {
 }
 
 // A bound with what it allows; nothing where nothing fits.
-#[derive(Clone, Copy)]
+#[derive(Clone, Copy, Debug, PartialEq, Eq)]
 pub(crate) struct Found {
     pub(crate) bound: Bound,
     pub(crate) most: Option<u32>,

@@ -16,7 +16,7 @@ use grade::{Cell, Class, Grade};
 use runs::Make;
 use sources::class_limit;
 
-#[derive(Clone, Copy)]
+#[derive(Clone, Copy, Debug, PartialEq, Eq)]
 pub(crate) struct ClassPlace<'a> {
     pub(crate) frame: PathFrame<'a>,
     pub(crate) classes: &'a [Cell<Class>],

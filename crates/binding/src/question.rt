@@ -8,7 +8,7 @@ use super::bound::{Bound, Found};
 use grade::Grade;
 
 // An enum and no closure: a question is asked in two ways, of a number and of all numbers from one on.
-#[derive(Clone, Copy)]
+#[derive(Clone, Copy, Debug, PartialEq, Eq)]
 pub(crate) enum Question {
     // Is it this value?
     Reaches(u32),

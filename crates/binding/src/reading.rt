@@ -1,4 +1,4 @@
-// The cell of a sample.
+// The cell of a sample, by an index that is known: this is where such an index is read.
 ghost use Rattle.std.specs.Prelude.{◌≡◌, ◌<◌, length};
 ghost use Rattle.grade.specs.Ranks.{ranked, ranked_all};
 ghost use Rattle.runs.specs.Sheets.{cell};

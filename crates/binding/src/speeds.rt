@@ -18,7 +18,7 @@ use job::top_speed;
 use runs::Make;
 use sources::speed_limit;
 
-#[derive(Clone, Copy)]
+#[derive(Clone, Copy, Debug, PartialEq, Eq)]
 pub(crate) struct SpeedPlace<'a> {
     pub(crate) of_class: ClassPlace<'a>,
     pub(crate) speeds: &'a [Cell<Speed>],

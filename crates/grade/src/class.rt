@@ -1,5 +1,6 @@
-// A permit class, from 0 to 7; its rank is the number itself. A type apart from `Speed`, so that it takes one byte in lent
-// memory: one type over their numbers would ask a trait of numbers for the laws that stand here.
+// A permit class, from 0 to 7; its rank is the number itself. A type apart from `Speed`: with one number for both a class
+// would take four bytes in lent memory, and one type over two numbers would need a trait of numbers whose two impls are as
+// long as these.
 ghost use Rattle.std.specs.Prelude.{◌≤◌, refl};
 ghost use Rattle.grade.specs.Tops.{class_top};
 ghost use Rattle.std.proofs.Common.{arith};

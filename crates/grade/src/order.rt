@@ -1,4 +1,5 @@
-// The lower and the higher of two grades.
+// The lower and the higher of two grades. By rank and no `Ord`: each make would prove an order that says again what its rank
+// says, for two lines here.
 ghost use Rattle.std.specs.Prelude.{◌≡◌, min, max};
 
 use super::grade::Grade;

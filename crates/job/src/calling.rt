@@ -1,8 +1,9 @@
 // The calls on a job, with its sheets beside it.
 //
 // Each call asks its questions first, the memory's before its own; refused, it leaves the very job and the very cells.
-// A cut and a lift each stand here twice, once for each make, since each borrows mutably only the sheet that it changes. For
-// the same reason the two sheets are no struct of both.
+// A cut and a lift each stand here twice, once for each make: one method over both would borrow both sheets mutably, and so
+// ask more of who calls it. What the two share stands once, in `ask`, `cut` and `lift`. For the same reason the two sheets
+// are no struct of both.
 ghost use Rattle.runs.specs.declared.stage.Make.TheVariants.{Classes, Speeds};
 ghost use Rattle.runs.specs.declared.call.Call.TheVariants.{Cut, Lift, Look};
 ghost use Rattle.job.specs.Holding.{held};

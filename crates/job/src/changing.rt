@@ -29,7 +29,8 @@ impl Job {
         }
     }
 
-    // The cap of a sample of one make falls to a grade.
+    // The cap of a sample of one make falls to a grade. At an index of its sheet: a cell alone would leave the contract no
+    // sheet to speak of, here and in `lift`.
     pub(crate) fn cut<G: Grade>(&mut self, make: Make, cells: &mut [Cell<G>], at: usize, to: G)
         requires { at < length cells.old }
         ensures samples { self.new.samples ≡ self.old.samples }

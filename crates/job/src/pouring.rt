@@ -13,7 +13,7 @@ pub fn pour(classes: &[Cell<Class>], speeds: &mut [Cell<Speed>]) -> Stage
     requires { length classes.now ≡ length speeds.old }
     ensures { job result fresh (sheets_of classes.now speeds.new) ≡ poured entry (length speeds.old) 0 (sheets_of classes.now speeds.old) }
 {
-    // Not zipped with the classes: of the elements of an adapter of `iter_mut` no invariant can speak.
+    // Not zipped with the classes: of what a zip with `iter_mut` has still to change no invariant can speak.
     for (at, speed) in speeds.iter_mut().enumerate() {
         let top = top_speed(classes[at].value);
         if top.rank() < speed.floor.rank() {

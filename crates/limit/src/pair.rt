@@ -33,6 +33,8 @@ impl<G: Grade, A: Limit<G>, B: Limit<G>> Limit<G> for Pair<A, B> {
     }
 }
 
+// Each limit has its own two functions, no generic ones: their contracts state its inequality in its own words.
+
 // A profile keeps a pair exactly when it keeps both.
 pub fn pair_kept_exactly<G: Grade, A: Limit<G>, B: Limit<G>>(limit: &Pair<A, B>)
     ensures { (p : Profile) → Keeps (both (A.Limit.number limit.now.first) (B.Limit.number limit.now.second)) p ↔ (Keeps (A.Limit.number limit.now.first) p × Keeps (B.Limit.number limit.now.second) p) }

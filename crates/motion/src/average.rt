@@ -50,6 +50,8 @@ fn sum(before: Speed, after: Speed, offset: i32) -> i64
     before.rank() as i64 + after.rank() as i64 + offset as i64
 }
 
+// Each limit has its own two functions, no generic ones: their contracts state its inequality in its own words.
+
 // A profile keeps an average exactly when 2 × w(i) ≤ w(i − 1) + w(i + 1) + q(i) at every inner sample that has a q.
 pub fn average_kept_exactly<Q: Offsets>(limit: &Average<Q>)
     ensures { KeptExactly speed_top (average (Q.Offsets.offsets limit.now.offsets)) (WithinAverage (Q.Offsets.offsets limit.now.offsets)) }

@@ -57,6 +57,8 @@ pub fn ramp_after<G: Raisable, S: Steps>(limit: &Ramp<S>, cells: &[Cell<G>], at:
     }
 }
 
+// Each limit has its own two functions, no generic ones: their contracts state its inequality in its own words.
+
 // A profile keeps a ramp exactly when at every gap the next rank is at most the last plus up and the last at most the
 // next plus down.
 pub fn ramp_kept_exactly<G: Raisable, S: Steps>(limit: &Ramp<S>)

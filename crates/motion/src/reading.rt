@@ -13,7 +13,7 @@ pub(crate) fn samples<G: Grade>(cells: &[Cell<G>]) -> usize
     cells.len()
 }
 
-// The grade at a sample.
+// The grade at a sample, by an index that is known: this is where such an index is read.
 pub(crate) fn value<G: Grade>(cells: &[Cell<G>], at: usize) -> G
     requires { at < length cells.now }
     ensures { G.Grade.rank result ≡ rank (ranks G.Grade.rank cells.now) at }

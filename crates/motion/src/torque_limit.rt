@@ -89,6 +89,8 @@ fn first_row<R: Rows>(rows: &R, at: usize) -> usize
     low
 }
 
+// Each limit has its own two functions, no generic ones: their contracts state its inequality in its own words.
+
 // A profile keeps the rows exactly when each row whose two samples are there says of them
 // 2h × lo ≤ d × (w(i + 1) − w(i)) + 2h × (c × w(i) + g) ≤ 2h × hi.
 pub fn torque_kept_exactly<R: Rows>(limit: &Torque<R>)

@@ -19,7 +19,7 @@ pub fn ask(
     ask_sizes(bytes, classes.len(), speeds.len())
 }
 
-// The same of memories of so many cells.
+// The same of memories of so many cells. Asked here of the frame's own count, since there is no job yet whose questions say it.
 pub(crate) fn ask_sizes(bytes: &[u8], classes: usize, speeds: usize) -> Result<Header, MakeFault>
     ensures is { result ≡ asked bytes.now classes speeds }
     ensures yes { OnOk result (Granted bytes.now classes speeds) }

@@ -16,6 +16,7 @@ pub enum MakeFault {
     NoSpeedMemory,
 }
 
+// By hand: a derived conversion does not say which variant it gives.
 impl From<FrameFault> for MakeFault {
     ghost from_gives = { λ e r. r ≡ Frame e };
 

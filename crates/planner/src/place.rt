@@ -8,7 +8,7 @@ use frame::PathFrame;
 use grade::{Grade, Speed};
 use record::Sample;
 
-#[derive(Clone, Copy)]
+#[derive(Clone, Copy, Debug, PartialEq, Eq)]
 pub(crate) struct SamplePlace<'a> {
     pub(crate) frame: PathFrame<'a>,
     pub(crate) at: usize,

@@ -49,6 +49,7 @@ pub enum SampleFault {
     EndOffset,
 }
 
+// Conversions by hand: derived ones do not say which variant they give.
 impl From<UnknownKind> for SampleFault {
     ghost from_gives = { λ _ r. r ≡ Kind };
 

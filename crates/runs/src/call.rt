@@ -3,6 +3,7 @@ ghost use Rattle.std.specs.Prelude.{◌≡◌};
 ghost use Rattle.runs.specs.Faults.{question_of};
 
 use super::stage::Make;
+use thiserror::Error;
 
 // A call with its numbers, each any that 64 bits hold.
 #[derive(Clone, Copy, Debug, PartialEq, Eq)]
@@ -17,14 +18,20 @@ pub enum Call {
     Look(u64),
 }
 
-// Why a call is refused: the first question that is answered no.
-#[derive(Clone, Copy, Debug, PartialEq, Eq)]
+// Why a call is refused: the first question that is answered no. It prints what that question asks.
+#[derive(Clone, Copy, Debug, PartialEq, Eq, Error)]
 pub enum Fault {
+    #[error("a path must have 2 to 4096 samples")]
     BadCount,
+    #[error("the class memory must hold every sample")]
     NoClassMemory,
+    #[error("the speed memory must hold every sample")]
     NoSpeedMemory,
+    #[error("the sample must be on the path")]
     NoSample,
+    #[error("the value must be at most the top of its make")]
     AboveTop,
+    #[error("the job must not be impossible")]
     JobImpossible,
 }
 

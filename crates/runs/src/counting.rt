@@ -13,7 +13,7 @@ impl Samples {
     pub fn new(count: u64) -> Result<Samples, Fault>
         ensures { counted result ≡ sampled count }
     {
-        if count < FEWEST || count > MOST {
+        if !(FEWEST..=MOST).contains(&count) {
             return Err(Fault::BadCount);
         }
         Ok(Samples {

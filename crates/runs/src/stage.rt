@@ -32,6 +32,6 @@ pub struct Sweep {
     pub direction: Direction,
     // How many samples it has visited.
     pub visited: usize,
-    // A value fell since it began, so another sweep has to follow.
+    // A value fell since it began, so another sweep has to follow. A plain yes or no, beside no value.
     pub marked: bool,
 }

@@ -27,7 +27,7 @@ pub fn run<C: Limit<Class>, S: Limit<Speed>>(
     lawful(limits.speeds);
     job.ask_room(classes.len(), speeds.len())?;
     let placed = &calls[..calls.len().min(answers.len())];
-    // Not zipped with `answers.iter_mut()`, of whose elements no invariant can speak.
+    // Not zipped with `answers.iter_mut()`: of what such a zip has still to change no invariant can speak.
     for (at, call) in placed.iter().enumerate() {
         answers[at] = perform(job, classes, speeds, limits, *call);
     }

@@ -4,13 +4,16 @@ ghost use Rattle.setpoint.specs.declared.fault.SetpointFault.TheVariants.{Sheets
 ghost use Rattle.setpoint.specs.Faults.{question_of};
 
 use runs::Fault;
+use thiserror::Error;
 
-#[derive(Clone, Copy, PartialEq, Eq, Debug)]
+#[derive(Clone, Copy, Debug, PartialEq, Eq, Error)]
 pub enum SetpointFault {
     // A memory beside the job is too short for its samples.
+    #[error(transparent)]
     Sheets(Fault),
+    #[error("the job must be settled")]
     NotSettled,
-    // The memory for the frame is too short.
+    #[error("the memory must hold the setpoint frame")]
     NoSetpointMemory,
 }
 
@@ -27,6 +30,7 @@ impl SetpointFault {
     }
 }
 
+// By hand: a derived conversion does not say which variant it gives.
 impl From<Fault> for SetpointFault {
     ghost from_gives = { λ e r. r ≡ Sheets e };
 

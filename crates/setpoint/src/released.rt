@@ -4,7 +4,7 @@ ghost use Rattle.std.specs.Prelude.{◌≡◌, length};
 use grade::{Cell, Class, Speed};
 use runs::Samples;
 
-#[derive(Drop)]
+#[derive(Debug, Drop)]
 pub struct Released<'a> {
     pub(crate) samples: Samples,
     pub(crate) classes: &'a [Cell<Class>],

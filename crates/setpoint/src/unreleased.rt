@@ -2,7 +2,7 @@
 use super::fault::SetpointFault;
 use job::Job;
 
-#[derive(Drop)]
+#[derive(Debug, Drop)]
 pub struct Unreleased {
     pub job: Job,
     pub fault: SetpointFault,

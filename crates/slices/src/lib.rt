@@ -1,4 +1,5 @@
-// Data of limits in slices: steps, offsets and rows as sources, a check of rows, and the speed limit over all three.
+// Data of limits in slices: steps, offsets and rows as sources, a check of rows, and the speed limit over all three. The three
+// sources are alike in `len` alone: what each reads, and what its trait promises of that, is its own.
 #![tactic(auto)]
 
 mod offsets;

@@ -1,5 +1,6 @@
 // The limits of a path frame, over data read in place from its bytes: steps, offsets and rows of an accepted frame as
-// sources, the class limit and the speed limit.
+// sources, the class limit and the speed limit. The three sources are alike in `len` alone: what each reads, and what its trait
+// promises of that, is its own.
 #![tactic(auto)]
 
 mod limits;

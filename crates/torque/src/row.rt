@@ -34,7 +34,7 @@ impl Row {
         weight != 0 && (self.d < 0) == (weight < 0) && weight.unsigned_abs() <= Row::SIZE as u64
     }
 
-    // 2h × (hi − g): the room that g leaves above.
+    // 2h × (hi − g): the room that g leaves above. This and the next are one line each, over one `scaled`.
     pub fn room_above(self, h: u16) -> i64
         ensures value { result ≡ room_above_of h self }
         ensures small { unsigned_abs result ≤ 2 ^ 49 }
