@@ -1,4 +1,4 @@
-// Answers of a script's calls on a job, one to a line.
+// Answers of a script's calls on a job, one to a line. What is wrapped here is only printed, and derives no comparison.
 use console::print_refused;
 use grade::{Cell, Class, Grade, Speed};
 use runs::{Answer, Make, Progress, Reply, Sight, Stage};

@@ -1,4 +1,5 @@
-// What holds a value where it is, and what clashes with a floor, in words.
+// What holds a value where it is, and what clashes with a floor, in words. The wrappers are only printed, and derive no
+// comparison.
 use binding::{Bound, Clash};
 use runs::Make;
 use std::fmt;

@@ -1,4 +1,4 @@
-// Counts in words.
+// Counts in words, only printed: they derive no comparison.
 use std::fmt;
 
 // So many of a thing, which takes an s unless it is one.

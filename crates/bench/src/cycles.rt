@@ -119,7 +119,8 @@ impl Work<'_> {
         let mut totals = Totals::NONE;
         let mut untold = Totals::NONE;
         let mut begun = first;
-        // Counts and no `while`, here and below: that an advance of a working job evaluates is not in the contracts of calls.
+        // Counts and no `while`, here and below: its measure would be the law's bound on evaluations, carried through `Live` and
+        // `cycle` for nothing but these loops, where a count that is never used up says as much.
         for _ in 0..u64::MAX {
             if begun.evaluations == 0 && is_over(begun.stage) {
                 break;

@@ -44,10 +44,7 @@ pub fn run_command(rt: &HostRuntime) -> anyhow::Result<ExitCode> {
 }
 
 fn command(rt: &HostRuntime) -> Result<(), Stop> {
-    let mut given = Vec::new(rt.alloc());
-    for word in env::args(rt)?.skip(1) {
-        given.push(word)?;
-    }
+    let given: Vec<String> = env::args(rt)?.skip(1).collect(rt.alloc())?;
     let words: Vec<&str> = given.iter().map(|word| word.as_str()).collect(rt.alloc())?;
     match words.as_slice() {
         [] | ["help" | "--help" | "-h"] => println!(rt; "{HELP}")?,
@@ -64,7 +61,8 @@ fn command(rt: &HostRuntime) -> Result<(), Stop> {
     Ok(())
 }
 
-// What a verb takes that is there with other words behind it, or that it is none.
+// What a verb takes that is there with other words behind it, or that it is none. Words for words: there is no type whose
+// `Display` this could be.
 fn usage(verb: &str) -> &'static str {
     match verb {
         "check" => "takes one file, as in furqyzet check FRAME",

@@ -1,4 +1,4 @@
-// A job that was made.
+// A job that was made. It owns its frame, and so is a type apart from `Live`, which holds a view of one.
 ghost use Rattle.std.specs.Prelude.{◌≡◌, true};
 ghost use Rattle.frame.specs.Paths.{accepted};
 

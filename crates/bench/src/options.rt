@@ -1,6 +1,6 @@
 // What `furqyzet plan` is asked for.
 use super::script::number;
-use std::fmt;
+use thiserror::Error;
 
 #[derive(Clone, Copy, Debug, PartialEq, Eq)]
 pub struct PlanOptions<'a> {
@@ -13,27 +13,18 @@ pub struct PlanOptions<'a> {
 }
 
 // What is wrong with the words behind the verb.
-#[derive(Clone, Copy, Debug, PartialEq, Eq)]
+#[derive(Clone, Copy, Debug, PartialEq, Eq, Error)]
 pub enum OptionFault {
+    #[error("takes a frame, as in furqyzet plan FRAME")]
     NoFrame,
+    #[error("takes one frame")]
     TwoFrames,
+    #[error("takes a number of evaluations, at least 1, behind --allowance")]
     NoAllowance,
+    #[error("takes a file to write behind --setpoints")]
     NoSetpoints,
+    #[error("has the options --allowance, --setpoints and --quiet alone")]
     Unknown,
-}
-
-impl fmt::Display for OptionFault {
-    fn fmt<W: fmt::Write>(&self, f: &mut fmt::Formatter<W>) -> fmt::Result {
-        f.write_str(match self {
-            OptionFault::NoFrame => "takes a frame, as in furqyzet plan FRAME",
-            OptionFault::TwoFrames => "takes one frame",
-            OptionFault::NoAllowance => {
-                "takes a number of evaluations, at least 1, behind --allowance"
-            }
-            OptionFault::NoSetpoints => "takes a file to write behind --setpoints",
-            OptionFault::Unknown => "has the options --allowance, --setpoints and --quiet alone",
-        })
-    }
 }
 
 // The options that the words behind the verb give, or the first thing that is wrong with them.

@@ -54,7 +54,8 @@ pub fn replay(rt: &HostRuntime, path: &str) -> Result<(), Stop> {
     let text = load_text(rt, path)?;
     let mut script = Script::new(rt.alloc(), path, text.as_str());
     let mut made = only_made(script.run(rt, &mut NoJob)?);
-    // A count and no `while let`: that each job takes a line of its own, and so that jobs end, is not in the contracts.
+    // A count and no `while let`: its measure would be the lines that are left, carried through `with_job` and `run` for nothing
+    // but this loop, where a count that is never used up says as much.
     for _ in 0..u64::MAX {
         let Some(job) = made else {
             break;

@@ -1,6 +1,6 @@
 // The lines of a script.
 use runs::{Call, Make};
-use std::fmt;
+use thiserror::Error;
 
 // What a line says.
 #[derive(Clone, Copy, Debug, PartialEq, Eq)]
@@ -28,22 +28,15 @@ pub enum JobLine {
 }
 
 // Why a line's words make no call.
-#[derive(Clone, Copy, Debug, PartialEq, Eq)]
+#[derive(Clone, Copy, Debug, PartialEq, Eq, Error)]
 pub enum LineFault {
-    // A word is missing, there are too many, or no number stands where one belongs.
+    #[error("too few words, too many, or no number where one belongs")]
     Broken,
+    #[error("there is no such call")]
     Unknown,
 }
 
-impl fmt::Display for LineFault {
-    fn fmt<W: fmt::Write>(&self, f: &mut fmt::Formatter<W>) -> fmt::Result {
-        f.write_str(match self {
-            LineFault::Broken => "too few words, too many, or no number where one belongs",
-            LineFault::Unknown => "there is no such call",
-        })
-    }
-}
-
+// The verbs of all calls, to tell a call with other words from none: `call_of` gives nothing of either.
 const VERBS: [&str; 12] = [
     "frame",
     "write-path",

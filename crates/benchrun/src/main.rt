@@ -1,4 +1,4 @@
-// The program at the bench: its arguments are a command for the bench.
+// The program at the bench: its arguments are a command for the bench. The gate runs it over a script, and `planrun` for a plan.
 #![tactic(auto)]
 
 use bench::run_command;

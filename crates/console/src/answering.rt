@@ -17,7 +17,7 @@ pub fn print_unmade(rt: &HostRuntime, refusal: Refusal) -> io::Result<()> {
     println!(rt; "refuse {layer} {number} {place}")
 }
 
-// Any other refusal: its question has no place in the frame.
+// Any other refusal, by the number that the answer of a script has: its question has no place in the frame.
 pub fn print_refused(rt: &HostRuntime, number: u8) -> io::Result<()> {
     println!(rt; "refuse - {number} 0")
 }

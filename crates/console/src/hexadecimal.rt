@@ -1,7 +1,7 @@
 // Bytes in hexadecimal.
 use std::fmt;
 
-// Two digits for each byte.
+// Two digits for each byte. Only printed: it derives no comparison.
 #[derive(Clone, Copy)]
 pub struct Hexadecimal<'a>(pub &'a [u8]);
 

@@ -21,6 +21,7 @@ pub fn cells<G: Grade>(heap: Global, count: u64) -> Result<Vec<Cell<G>>, AllocEr
         cap: lowest,
         floor: lowest,
     };
+    // Pushed one by one, and no `vec![in heap; cell; n]`, of which it is not proved that a clone of a grade is that grade.
     let mut cells = Vec::new(heap);
     for _ in 0..count.min(MOST_SAMPLES as u64) {
         cells.push(cell)?;

@@ -24,8 +24,6 @@ pub fn accept<'a>(rt: &HostRuntime, bytes: &'a [u8]) -> Result<PathFrame<'a>, St
     ensures accepts { IsOk result ↔ (accepted bytes.now ≡ true) }
     ensures view { IfOk result (λ frame. frame.bytes.now ≡ bytes.now) }
 {
-    match read(bytes) {
-        Ok(_) => Ok(PathFrame::over(bytes)),
-        Err(fault) => Err(refuse(rt, fault.refusal(), fault)),
-    }
+    read(bytes).map_err(|fault| refuse(rt, fault.refusal(), fault))?;
+    Ok(PathFrame::over(bytes))
 }

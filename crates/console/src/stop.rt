@@ -15,6 +15,7 @@ pub enum Stop {
     Other(anyhow::Error),
 }
 
+// By hand: it is `Other` of an error, whatever that is, which `thiserror` would keep as a variant for each.
 impl From<anyhow::Error> for Stop {
     ghost from_gives = { λ e r. r ≡ Other e };
 

@@ -28,12 +28,10 @@ fn main(rt: HostRuntime) -> anyhow::Result<ExitCode> {
     exit_code(command(&rt))
 }
 
-// Does what the arguments ask for.
+// Does what the arguments ask for. A `match` on their words, here and in the larger program, which has other options: a table
+// of commands would be no shorter.
 fn command(rt: &HostRuntime) -> Result<(), Stop> {
-    let mut given = Vec::new(rt.alloc());
-    for word in env::args(rt)?.skip(1) {
-        given.push(word)?;
-    }
+    let given: Vec<String> = env::args(rt)?.skip(1).collect(rt.alloc())?;
     let words: Vec<&str> = given.iter().map(|word| word.as_str()).collect(rt.alloc())?;
     match words.as_slice() {
         [] | ["help" | "--help" | "-h"] => println!(rt; "{HELP}")?,

@@ -1,4 +1,5 @@
-// `furqyzet plan`: a frame's job made and advanced until its work ends, and the table it settles on.
+// `furqyzet plan`: a frame's job made and advanced until its work ends, and the table it settles on. The larger program plans in
+// cycles and prints another table; what both do alike is in `console`.
 use anyhow::{Context, anyhow};
 use console::{Stop, accept, cells, load};
 use grade::{Cell, Class, Grade, Speed};
@@ -6,6 +7,7 @@ use planner::plan;
 use runs::{Call, Reply, Stage};
 use std::io;
 
+// In place of the fault's own words, which would be printed behind these.
 const TOO_LITTLE: &str = "too little memory for the samples";
 
 pub fn plan_file(rt: &HostRuntime, file: &str) -> Result<(), Stop> {

@@ -1,4 +1,5 @@
-// `furqyzet replay`: the calls of a script, one to a line, and one answer to a line.
+// `furqyzet replay`: the calls of a script, one to a line, and one answer to a line. There are no jobs here, and so none of the
+// larger program's handlers; what both do alike is in `console`.
 use super::script::{Line, line_of};
 use console::{Place, Stop, break_off, bytes, complain, load, load_text, write_path};
 

@@ -1,5 +1,5 @@
-// The lines of a script.
-use std::fmt;
+// The lines of a script that this program knows; the larger program knows others and says other words of a line that is none.
+use thiserror::Error;
 
 // A line's call, with the words behind it.
 #[derive(Clone, Copy, Debug, PartialEq, Eq)]
@@ -13,34 +13,23 @@ pub enum Line<'a> {
 }
 
 // Why a line's words make no call, with its verb.
-#[derive(Clone, Copy, Debug, PartialEq, Eq)]
+#[derive(Clone, Copy, Debug, PartialEq, Eq, Error)]
 pub enum LineFault<'a> {
-    // A word is missing, there are too many, or no number stands where one belongs.
+    #[error("{0} has too few words, too many, or no number where one belongs")]
     Broken(&'a str),
+    #[error("there is no call '{0}'")]
     Unknown(&'a str),
 }
 
-impl fmt::Display for LineFault<'_> {
-    fn fmt<W: fmt::Write>(&self, f: &mut fmt::Formatter<W>) -> fmt::Result {
-        match self {
-            LineFault::Broken(verb) => write!(
-                f,
-                "{verb} has too few words, too many, or no number where one belongs"
-            ),
-            LineFault::Unknown(verb) => write!(f, "there is no call '{verb}'"),
-        }
-    }
-}
-
-// The call of a line's words.
+// The call of a line's words. A number may have a sign in front here, as `parse` takes it; the larger program takes none.
 pub fn line_of<'a>(words: &[&'a str]) -> Result<Line<'a>, LineFault<'a>> {
     match words {
         [] => Ok(Line::Empty),
         ["frame", file] => Ok(Line::Frame(file)),
-        [verb @ "write-path", length] => match length.parse() {
-            Ok(length) => Ok(Line::WritePath(length)),
-            Err(_) => Err(LineFault::Broken(verb)),
-        },
+        [verb @ "write-path", length] => length
+            .parse()
+            .map(Line::WritePath)
+            .map_err(|_| LineFault::Broken(verb)),
         [verb @ ("frame" | "write-path"), ..] => Err(LineFault::Broken(verb)),
         [verb, ..] => Err(LineFault::Unknown(verb)),
     }

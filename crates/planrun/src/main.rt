@@ -1,4 +1,5 @@
-// The program once more, for the gate: it plans the five-sample path, and what it prints is compared.
+// The program once more, since the gate runs a program with one list of arguments: this one plans the five-sample path, and
+// what it prints is compared.
 #![tactic(auto)]
 
 use bench::run_command;
