@@ -26,10 +26,10 @@ pub fn line_of<'a>(words: &[&'a str]) -> Result<Line<'a>, LineFault<'a>> {
     match words {
         [] => Ok(Line::Empty),
         ["frame", file] => Ok(Line::Frame(file)),
-        [verb @ "write-path", length] => length
-            .parse()
-            .map(Line::WritePath)
-            .map_err(|_| LineFault::Broken(verb)),
+        [verb @ "write-path", length] => {
+            let length = length.parse().map_err(|_| LineFault::Broken(verb))?;
+            Ok(Line::WritePath(length))
+        }
         [verb @ ("frame" | "write-path"), ..] => Err(LineFault::Broken(verb)),
         [verb, ..] => Err(LineFault::Unknown(verb)),
     }
