@@ -104,7 +104,8 @@ fn is_due(all: u64, untold: u64) -> bool
     all <= TOLD_ONE_BY_ONE || untold >= all.saturating_sub(untold)
 }
 
-// A job at work, with the allowance of evaluations for each of its cycles, at least 1.
+// A job at work, with the allowance of evaluations for each of its cycles, at least 1. There is one at a time, and it is never
+// compared.
 #[derive(Drop)]
 pub struct Work<'a> {
     pub live: Live<'a>,

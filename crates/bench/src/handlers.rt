@@ -10,7 +10,7 @@ use setpoint::{Released, ask_release, release};
 use std::convert::Infallible;
 use std::ops::ControlFlow;
 
-// There is no job yet.
+// There is no job yet. A handler is the only one of its time, and is never compared.
 #[derive(Drop)]
 pub struct NoJob;
 
@@ -26,7 +26,7 @@ impl Handler for NoJob {
     }
 }
 
-// The job said yes to its release.
+// The job said yes to its release: a word to its caller, never compared.
 #[derive(Clone, Copy)]
 pub struct Releasing;
 

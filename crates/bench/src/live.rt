@@ -1,4 +1,5 @@
-// A job at hand, with the frame that it was made of and its memories.
+// A job at hand, with the frame that it was made of and its memories; it owns them, and is never compared. Where its job is
+// released it is taken apart, since what is released borrows the memories.
 ghost use Rattle.std.specs.Prelude.{◌≡◌, take};
 
 use frame::PathFrame;

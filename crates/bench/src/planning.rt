@@ -61,7 +61,8 @@ fn plan_frame(
     settle(rt, work, first, options.setpoints)
 }
 
-// As many evaluations as the frame's job can need.
+// As many evaluations as the frame's job can need; of a refused making any number, since the plan that follows refuses it in
+// words.
 fn sufficient(bytes: &[u8], classes: &mut [Cell<Class>], speeds: &mut [Cell<Speed>]) -> u64 {
     let Ok(job) = make_or_refuse(bytes, classes, speeds) else {
         return u64::MAX;

@@ -19,7 +19,7 @@ use std::str::Lines;
 // No frame comes near as many bytes.
 const MOST_BYTES: u64 = 1 << 30;
 
-// What ends the lines of a handler before the script ends.
+// What ends the lines of a handler before the script ends. It hands a job over, and is never compared.
 #[derive(Drop)]
 pub enum Next<P> {
     // Another job was made.
@@ -41,7 +41,7 @@ pub trait Handler {
     ) -> Result<ControlFlow<Self::Parting>, Stop>;
 }
 
-// A script under way: its file, the lines that are left, how many were read, and the frame for the lines below.
+// A script under way, of which there is one: its file, the lines that are left, how many were read, and the frame for the lines below.
 #[derive(Drop)]
 pub struct Script<'a> {
     path: &'a str,

@@ -2,7 +2,7 @@
 ghost use Rattle.std.specs.Prelude.{◌≡◌, ◌↔◌, true, IsOk, IfOk};
 ghost use Rattle.frame.specs.Paths.{accepted};
 
-use super::stop::Stop;
+use super::stop::{Stop, reported};
 use frame::{PathFrame, Refusal, read};
 use std::fmt;
 
@@ -13,10 +13,10 @@ pub fn refuse<Q: fmt::Display + Drop>(rt: &HostRuntime, refusal: Refusal, questi
         number,
         place,
     } = refusal;
-    match println!(rt; "refused: layer {layer}, question {number}, at byte {place}\n{question}") {
-        Ok(()) => Stop::Reported,
-        Err(error) => Stop::from(error),
-    }
+    let printed = println!(rt;
+        "refused: layer {layer}, question {number}, at byte {place}\n{question}"
+    );
+    reported(printed)
 }
 
 // The view of bytes that the reader accepts.

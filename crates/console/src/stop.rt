@@ -48,12 +48,19 @@ impl<T: Drop> From<AllocFailed<T>> for Stop {
     }
 }
 
-// Says on standard error what is wrong: the stop for it.
-pub fn complain<M: fmt::Display + Drop>(rt: &HostRuntime, reason: M) -> Stop {
-    match eprintln!(rt; "furqyzet: {reason}") {
+// The stop for a reason that was printed, or for the error that kept it from being.
+pub(crate) fn reported(printed: io::Result<()>) -> Stop
+    ensures { printed ≡ Ok tt → result ≡ Stop.Reported }
+{
+    match printed {
         Ok(()) => Stop::Reported,
         Err(error) => Stop::from(error),
     }
+}
+
+// Says on standard error what is wrong: the stop for it.
+pub fn complain<M: fmt::Display + Drop>(rt: &HostRuntime, reason: M) -> Stop {
+    reported(eprintln!(rt; "furqyzet: {reason}"))
 }
 
 // What `main` returns of a command that ended so: the status is 1 where the reason is printed already, and any other error
