@@ -1,4 +1,5 @@
-// The place of a sample in its class sheet.
+// The place of a sample in its class sheet. A type apart from a speed's place, which has both sheets: what bounds a class needs
+// no speeds, and who asks for it need not have them.
 ghost use Rattle.std.specs.Prelude.{◌≡◌, ◌<◌, ◌≤◌, [], length, MatchOption};
 ghost use Rattle.grade.specs.Ranks.{class_rank, ranked, ranked_all};
 ghost use Rattle.runs.specs.declared.stage.Make.TheVariants.{Classes};
