@@ -60,7 +60,7 @@ fn next_piece(left: u64, made: u64) -> Call
     Call::Advance(left.min(PIECE.max(made)))
 }
 
-// What an advance came to, from its answer; a refused one came to nothing at the stage that the job stands at.
+// What an advance came to, from its answer; a refused one came to nothing at the stage that the job stands at, which says why.
 pub fn progress_of(answer: Answer, stage: Stage) -> Progress
     ensures { (p : Progress) → answer ≡ Ok (Advanced p) → result ≡ p }
 {

@@ -43,6 +43,7 @@ pub fn run_command(rt: &HostRuntime) -> anyhow::Result<ExitCode> {
     exit_code(command(rt))
 }
 
+// A `match` on the words, as in the smaller program: a table of commands would be no shorter.
 fn command(rt: &HostRuntime) -> Result<(), Stop> {
     let given: Vec<String> = env::args(rt)?.skip(1).collect(rt.alloc())?;
     let words: Vec<&str> = given.iter().map(|word| word.as_str()).collect(rt.alloc())?;
@@ -50,10 +51,13 @@ fn command(rt: &HostRuntime) -> Result<(), Stop> {
         [] | ["help" | "--help" | "-h"] => println!(rt; "{HELP}")?,
         ["--version" | "-V"] => println!(rt; "{VERSION}")?,
         ["check", frame] => check(rt, frame)?,
-        ["plan", options @ ..] => match plan_options(options) {
-            Ok(options) => plan_file(rt, options)?,
-            Err(fault) => return Err(complain(rt, format_args!("plan {fault}"))),
-        },
+        ["plan", options @ ..] => {
+            let options = plan_options(options).map_err(|fault| complain(
+                rt,
+                format_args!("plan {fault}"),
+            ))?;
+            plan_file(rt, options)?;
+        }
         ["replay", script] => replay(rt, script)?,
         ["rewrite", frame, out] => rewrite_file(rt, frame, out)?,
         [verb, ..] => return Err(complain(rt, format_args!("{verb} {}", usage(verb)))),

@@ -5,7 +5,7 @@ ghost use Rattle.frame.specs.Paths.{accepted};
 use grade::{Cell, Class, Speed};
 use job::Job;
 
-// A job with the accepted frame that it was made of, and its memories.
+// A job with the accepted frame that it was made of, and its memories. It owns them, and is never shown or compared.
 #[derive(Drop)]
 pub struct Made {
     pub frame: Vec<u8>,

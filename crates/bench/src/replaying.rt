@@ -41,7 +41,7 @@ pub trait Handler {
     ) -> Result<ControlFlow<Self::Parting>, Stop>;
 }
 
-// A script under way, of which there is one: its file, the lines that are left, how many were read, and the frame for the lines below.
+// A script under way, of which there is one, never shown or compared: its file, the lines that are left, how many were read, and the frame for the lines below.
 #[derive(Drop)]
 pub struct Script<'a> {
     path: &'a str,
@@ -113,24 +113,23 @@ fn step<H: Handler>(
     line: &str,
 ) -> Result<ControlFlow<Next<H::Parting>>, Stop> {
     let words: Vec<&str> = line.split_whitespace().collect(rt.alloc())?;
-    match line_of(words.as_slice()) {
-        Ok(Line::Empty) => {}
-        Ok(Line::Frame(file)) => *frame = take_frame(rt, file)?,
-        Ok(Line::WritePath(length)) => {
+    match line_of(words.as_slice()).map_err(|fault| complain(rt, fault))? {
+        Line::Empty => {}
+        Line::Frame(file) => *frame = take_frame(rt, file)?,
+        Line::WritePath(length) => {
             let mut memory = lend(rt, length)?;
             write_path(rt, frame.as_slice(), memory.as_mut_slice())?;
         }
-        Ok(Line::Make(classes, speeds)) => {
+        Line::Make(classes, speeds) => {
             if let Some(made) = make_job(rt, frame.as_slice(), classes, speeds)? {
                 return Ok(ControlFlow::Break(Next::Made(made)));
             }
         }
-        Ok(Line::Job(line)) => {
+        Line::Job(line) => {
             if let ControlFlow::Break(parting) = handler.answer(rt, line)? {
                 return Ok(ControlFlow::Break(Next::Parted(parting)));
             }
         }
-        Err(fault) => return Err(complain(rt, fault)),
     }
     Ok(ControlFlow::Continue(()))
 }

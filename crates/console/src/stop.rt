@@ -7,6 +7,7 @@ use std::alloc::{AllocError, AllocFailed};
 use std::process::ExitCode;
 use std::{fmt, io};
 
+// An error of any kind may be in it, so it is never compared.
 #[derive(Debug, Drop)]
 pub enum Stop {
     // The reason is printed already.

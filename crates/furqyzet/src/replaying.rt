@@ -17,17 +17,16 @@ pub fn replay(rt: &HostRuntime, path: &str) -> Result<(), Stop> {
 // One line of a script.
 fn step(rt: &HostRuntime, frame: &mut Vec<u8>, line: &str) -> Result<(), Stop> {
     let words: Vec<&str> = line.split_whitespace().collect(rt.alloc())?;
-    match line_of(words.as_slice()) {
-        Ok(Line::Empty) => {}
-        Ok(Line::Frame(file)) => {
+    match line_of(words.as_slice()).map_err(|fault| complain(rt, fault))? {
+        Line::Empty => {}
+        Line::Frame(file) => {
             *frame = load(rt, file)?;
             println!(rt; "ok")?;
         }
-        Ok(Line::WritePath(length)) => {
+        Line::WritePath(length) => {
             let mut memory = bytes(rt.alloc(), length)?;
             write_path(rt, frame.as_slice(), memory.as_mut_slice())?;
         }
-        Err(fault) => return Err(complain(rt, fault)),
     }
     Ok(())
 }

@@ -7,6 +7,7 @@ use super::triple::Triple;
 use grade::{Cell, Speed, lower};
 use torque::Row;
 
+// Made and used up within one evaluation: it is never compared.
 #[derive(Clone, Copy, Debug)]
 pub(crate) struct SpacedRow {
     pub(crate) h: u16,

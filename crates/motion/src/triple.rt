@@ -10,6 +10,7 @@ ghost use Rattle.motion.specs.Torques.{Fit, bound};
 use super::floor::floor_bound;
 use grade::{Grade, Speed};
 
+// Made and used up within one evaluation: it is never compared.
 #[derive(Clone, Copy, Debug)]
 pub(crate) struct Triple {
     pub(crate) own: u32,

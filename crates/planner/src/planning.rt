@@ -30,6 +30,7 @@ pub fn plan_under<C: Limit<Class>, S: Limit<Speed>>(
     ensures { PlansFrom bytes.now (C.Limit.number limits.now.classes.now) (S.Limit.number limits.now.speeds.now) (placed calls.now answers.old) classes.old classes.new speeds.old speeds.new answers.old answers.new result }
 {
     let mut job = make_or_refuse(bytes, classes, speeds)?;
+    // It refuses only memories too short for the job, and this job was made in them.
     let _ = run(&mut job, classes, speeds, limits, calls, answers);
     Ok(job)
 }

@@ -21,6 +21,7 @@ pub fn plan<C: Limit<Class>, S: Limit<Speed>>(
     ensures { Plans (C.Limit.number limits.now.classes.now) (S.Limit.number limits.now.speeds.now) samples (placed calls.now answers.old) classes.old classes.new speeds.old speeds.new answers.old answers.new result }
 {
     let mut job = Job::make(classes, speeds, samples)?;
+    // It refuses only memories too short for the job, and this job was made in them.
     let _ = run(&mut job, classes, speeds, limits, calls, answers);
     Ok(job)
 }

@@ -4,6 +4,7 @@ ghost use Rattle.std.specs.Prelude.{◌≡◌, length};
 use grade::{Cell, Class, Speed};
 use runs::Samples;
 
+// Used up once: it is never compared, nor is what was not released.
 #[derive(Debug, Drop)]
 pub struct Released<'a> {
     pub(crate) samples: Samples,

@@ -2,6 +2,7 @@
 use super::fault::SetpointFault;
 use job::Job;
 
+// It gives a job back, and is never compared.
 #[derive(Debug, Drop)]
 pub struct Unreleased {
     pub job: Job,
