@@ -1,93 +1,70 @@
 #!/usr/bin/env python3
-"""Compares `furqyzet plan` with a planner written here from docs/METHOD.md and docs/LIMITS.md, on many small paths.
+"""Compares `furqyzet plan` with the planner of planner_model.py, on many small paths: its cycles, its table with what holds each
+sample, and what clashes.
 
 Run from the top of the repository after ./furqyzet was built: python3 tests/compare_plans.py [COUNT] [SEED]
 """
 import random
-import struct
+import re
 import subprocess
 import sys
 import tempfile
 from pathlib import Path
 
-from compare_frames import MOST, PROGRAM, refusal
-from planner_model import CLASSES, SPEEDS, TABLE, Job
+from compare_frames import PROGRAM
+from planner_model import CLASSES, SPEEDS, Job, path
+
+# sample, class, squared speed, m/s, sent, what holds the class, what holds the speed
+ROW = r" *(\d+) +(\d+) +(\d+) +[\d.]+ +\d+  (.{13})  (.*)"
+LONGEST = 100000  # evaluations; a path that needs more is passed over
 
 
-class Plan(Job):
-    """A job planned whole: sweep after sweep on the classes, the pour, then sweep after sweep on the speeds."""
-
-    def __init__(self, data):
-        super().__init__(data)
-        self.evaluations = self.lowerings = 0
-
-    def sweep(self, sheet, rising):
-        """Whether a sweep lowered anything; None where it found the job impossible."""
-        marked = False
-        for i in range(self.n) if rising else reversed(range(self.n)):
-            self.evaluations += 1
-            number = self.number(sheet, i)
-            if number < self.floors[sheet][i]:
-                self.found = i
-                return None
-            if number < self.values[sheet][i]:
-                self.values[sheet][i] = number
-                self.lowerings += 1
-                marked = True
-        return marked
-
-    def settle(self, sheet):
-        rising = True
-        while self.sweep(sheet, rising):
-            rising = not rising
-
-    def run(self):
-        if self.found is None:
-            self.settle(CLASSES)
-        if self.found is None:
-            for i in range(self.n):
-                entry = TABLE[self.values[CLASSES][i]]
-                if entry < self.floors[SPEEDS][i]:
-                    self.found = i
-                    break
-                self.values[SPEEDS][i] = min(self.values[SPEEDS][i], entry)
-        if self.found is None:
-            self.settle(SPEEDS)
+# the bounds of a sample in a sentence
+SUBJECTS = {"cap": "the cap", "class": "the class table at its class", "ramp before": "the ramp from the sample before",
+            "ramp after": "the ramp from the sample after", "average": "the average of its neighbours"}
 
 
-def path(rng):
-    n, t, h = rng.randint(2, 7), rng.choice([0, 0, 1, 3]), rng.choice([1, 1, 2, 5])
-    body = struct.pack(">HHIH", n, h, rng.choice([0, 1000, 131072]), t)
-    for i in range(n):
-        kind = rng.choice([0, 1, 2, 3, 3, 3])
-        first = second = 0
-        if kind in (1, 2):
-            first = struct.unpack(">I", struct.pack(">f", rng.choice([0.0, 0.25, 1.0, 0.1, 0.01, 200.0])))[0]
-        if kind == 2:
-            second = struct.unpack(">I", struct.pack(">f", rng.choice([0.0, -0.0, 3.0, -0.5])))[0]
-        if kind == 3:
-            first = rng.randint(0, 300)
-        q = 0 if i in (0, n - 1) else rng.choice([0, 3, 50, -2, 400, MOST])
-        floors = (rng.choice([0, 0, 0, 0, 1, 3]), rng.choice([0, 0, 0, 0, 0, 5, 20]))
-        body += bytes([kind, rng.choice([7, 7, 7, 1, 2, 0]), floors[0], 0]) + struct.pack(">IIIi", first, second, floors[1], q)
-    for _ in range(n - 1):
-        body += bytes([rng.randrange(8), rng.randrange(8), 0, 0]) + struct.pack(">II", rng.choice([1, 30, 100, MOST]), rng.choice([1, 30, 100, MOST]))
-    at = 0
-    for _ in range(t):
-        at = rng.randint(at, n - 2)
-        d = rng.choice([1, -1, 3, -7, 20])
-        c = rng.choice([0, 0, 1, -1]) if abs(d) > 2 * h else 0
-        body += struct.pack(">HHiiiii", at, 0, d, c, rng.randint(-5, 5), rng.randint(-60, -1), rng.randint(0, 90))
-    return b"\x01" + struct.pack(">I", len(body)) + body
+def sentence(sheet, name, most, floor):
+    thing = ("class", "squared speed")[sheet]
+    allows = f"allows no {thing} at all" if most < 0 else f"allows a {thing} of at most {most}"
+    return f"there {SUBJECTS.get(name, name)} {allows}, and the floor is {floor}"
 
 
 def wanted(data):
-    job = Plan(data)
-    job.run()
-    if job.found is not None:
-        return [f"impossible: no table keeps every limit and every floor; found at sample {job.found}"]
-    lines = [f"settled after {job.evaluations} evaluations and {job.lowerings} lowerings"]
-    return lines + [f"{i} {c} {w}" for i, (c, w) in enumerate(zip(*job.values))]
+    """The plan by the model: an impossible path's sample and clash, or evaluations, lowerings and table; None where it takes long."""
+    job = Job(data)
+    counts = (0, 0) if job.is_over() else job.advance(LONGEST)
+    if job.state == "impossible":
+        return "impossible", job.found, sentence(*job.clash())
+    if not job.is_over():
+        return None
+    rows = [(i, *values, job.held_by(CLASSES, i), job.held_by(SPEEDS, i)) for i, values in enumerate(zip(*job.values))]
+    return "settled", job.n, *counts, rows
+
+
+def matches(pattern, lines):
+    """What the pattern marks in every line that begins with it, numbers as such."""
+    found = [re.match(pattern, line) for line in lines]
+    return [tuple(int(part) if part.isdecimal() else part.strip() for part in match.groups()) for match in found if match]
+
+
+def printed(out):
+    """The same, from the program's lines; the lines themselves where they say neither, or where the cycles don't add up."""
+    lines = out.splitlines()
+    impossible = matches(r"impossible: .*?sample (\d+)", lines)
+    if len(impossible) == 1:
+        return "impossible", *impossible[0], lines[-1]
+    heads = [k for k, line in enumerate(lines) if line.split()[:1] == ["sample"]]
+    totals = matches(r"settled: (\d+) samples?, (\d+) evaluations?, (\d+) lowerings?, (\d+) cycles?", lines)
+    if len(heads) != 1 or len(totals) != 1:
+        return lines
+    samples, evaluations, lowerings, count = totals[0]
+    cycles = matches(r"cycle (\d+): \w+, (\d+) evaluations?, (\d+) lowerings?", lines)
+    if [cycle for cycle, _, _ in cycles] != list(range(1, count + 1)):
+        return lines
+    if (sum(e for _, e, _ in cycles), sum(l for _, _, l in cycles)) != (evaluations, lowerings):
+        return lines
+    return "settled", samples, evaluations, lowerings, matches(ROW, lines[heads[0] + 1:])
 
 
 def main():
@@ -97,17 +74,19 @@ def main():
     with tempfile.TemporaryDirectory() as folder:
         for _ in range(count):
             data = path(rng)
-            if refusal(data):
+            want = wanted(data)
+            if not want:
                 continue
             planned += 1
+            settled += want[0] == "settled"
             Path(folder, "one.path").write_bytes(data)
-            out = subprocess.run([PROGRAM, "plan", "one.path"], cwd=folder, capture_output=True, text=True).stdout.splitlines()
-            got = out[:1] + [" ".join(line.split()[:3]) for line in out[2:]]
-            settled += out[0].startswith("settled")
-            if got != wanted(data):
+            run = subprocess.run([PROGRAM, "plan", "one.path"], cwd=folder, capture_output=True, text=True)
+            got = printed(run.stdout)
+            if got != want or run.returncode != (want[0] == "impossible"):
                 wrong += 1
-                print(data.hex(), got, wanted(data), sep="\n  ")
-    print(f"{planned} paths planned of {count} drawn (the reader refuses the rest), {settled} settled, {wrong} differ")
+                if wrong <= 5:
+                    print(data.hex(), f"got {got}, status {run.returncode}", f"wanted {want}", sep="\n  ")
+    print(f"{planned} paths planned of {count} drawn (the rest take too long), {settled} settled, {wrong} differ")
     sys.exit(1 if wrong else 0)
 
 

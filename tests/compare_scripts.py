@@ -1,8 +1,7 @@
 #!/usr/bin/env python3
-"""Compares `replay` of the larger program (crate benchrun) with the planner of planner_model.py, call by call, on many random scripts.
+"""Compares `furqyzet replay` with the planner of planner_model.py, call by call, on many random scripts.
 
-Run from the top of the repository after `rt run` in crates/benchrun, or .ci/run, has built it:
-python3 tests/compare_scripts.py [--long] [COUNT] [SEED]
+Run from the top of the repository after ./furqyzet was built: python3 tests/compare_scripts.py [--long] [COUNT] [SEED]
 With --long the paths have 4096 samples and 8192 torque rows. The scripts are kept where an answer differs.
 """
 import copy
@@ -15,8 +14,8 @@ import tempfile
 from collections import Counter
 from pathlib import Path
 
-from compare_frames import answer as path_answer, damaged, refusal
-from planner_model import CLASSES, PROGRAM, SPEEDS, TABLE, TOPS, Job, Refused, path
+from compare_frames import PROGRAM, answer as path_answer, damaged, refusal
+from planner_model import CLASSES, SPEEDS, TABLE, TOPS, Job, Refused, path
 
 HUGE = 2**64 - 1
 PATIENCE = 300

@@ -1,13 +1,11 @@
 """The planner written a second time, from docs/METHOD.md, docs/LIMITS.md, docs/FORMATS.md and docs/QUESTIONS.md alone, and
-random paths to try it on. compare_scripts.py and compare_tables.py hold the program of crates/benchrun against it.
+random paths to try it on. compare_plans.py and compare_scripts.py hold the program against it.
 """
 import struct
 from fractions import Fraction
 from math import isqrt
 
-from compare_frames import MOST, TOP, half, refusal, signed, word
-
-PROGRAM = TOP / "crates" / "benchrun" / "out" / "benchrun"
+from compare_frames import MOST, half, refusal, signed, word
 
 CLASSES, SPEEDS = 0, 1
 WORKING = "classes", "speeds"

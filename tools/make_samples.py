@@ -10,9 +10,8 @@ MOST = 2147483647
 TOP = Path(__file__).resolve().parent.parent
 SAMPLES = TOP / "samples"
 # where the gate's programs read them
-FURQYZET = TOP / "crates" / "furqyzet" / "data" / "samples"
-BENCH = TOP / "crates" / "benchrun" / "data" / "samples"
-PLAN = TOP / "crates" / "planrun" / "data"
+REPLAYED = TOP / "crates" / "replayrun" / "data" / "samples"
+PLANNED = [TOP / "crates" / name / "data" / "samples" for name in ("furqyzet", "cyclesrun")]
 
 FREE, STRAIGHT, BEND, FIXED = range(4)
 
@@ -82,11 +81,13 @@ def main():
         "bad-sample.path": changed(five, 15 + 20 * 2 + 1, 8),
         "bad-gap.path": changed(five, 15 + 20 * 5 + 12 * 3 + 3, 1),
         "bad-torque.path": changed(torque, 15 + 20 * 4 + 12 * 3 + 24 * 2 + 1, 9),
+        "steep.path": steep,
+        "slow-class.path": slow_class,
+        "low-cap.path": low_cap,
     }
-    impossible = {"steep.path": steep, "slow-class.path": slow_class, "low-cap.path": low_cap}
-    for folder, kept in ((SAMPLES, files), (FURQYZET, files), (BENCH, files | impossible), (PLAN, {"five.path": five})):
+    for folder in (SAMPLES, REPLAYED, *PLANNED):
         folder.mkdir(parents=True, exist_ok=True)
-        for name, data in kept.items():
+        for name, data in (files if folder in (SAMPLES, REPLAYED) else {"five.path": five}).items():
             (folder / name).write_bytes(data)
             print(f"{(folder / name).relative_to(TOP)}: {len(data)} bytes")
 

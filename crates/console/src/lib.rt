@@ -1,4 +1,4 @@
-// What the programs at the bench share: how a command stops, files, frames explained and written again, the answers of a
+// What the program's commands stand on: how a command stops, files, frames explained and written again, the answers of a
 // script's calls, and memory that is lent to the library.
 #![tactic(auto)]
 

@@ -1,4 +1,4 @@
-// The commands of the program at the bench: a path frame explained, planned and rewritten, and scripts of calls replayed.
+// The program's commands: a path frame explained, planned and rewritten, and scripts of calls replayed.
 #![tactic(auto)]
 
 mod answering;
@@ -43,7 +43,7 @@ pub fn run_command(rt: &HostRuntime) -> anyhow::Result<ExitCode> {
     exit_code(command(rt))
 }
 
-// A `match` on the words, as in the smaller program: a table of commands would be no shorter.
+// A `match` on the words: a table of commands would be no shorter.
 fn command(rt: &HostRuntime) -> Result<(), Stop> {
     let given: Vec<String> = env::args(rt)?.skip(1).collect(rt.alloc())?;
     let words: Vec<&str> = given.iter().map(|word| word.as_str()).collect(rt.alloc())?;
