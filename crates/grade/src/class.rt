@@ -8,6 +8,7 @@ ghost use Rattle.std.proofs.Common.{arith};
 use super::grade::{Grade, Raisable};
 
 #[derive(Clone, Copy, Debug, PartialEq, Eq)]
+#[repr(C)]
 pub struct Class {
     value: u8,
     ghost ok: { value ≤ class_top },

@@ -6,6 +6,7 @@ ghost use Rattle.std.proofs.Common.{arith};
 use super::grade::{Grade, Raisable};
 
 #[derive(Clone, Copy, Debug, PartialEq, Eq)]
+#[repr(C)]
 pub struct Speed {
     value: u32,
     ghost ok: { value ≤ speed_top },
