@@ -3,7 +3,7 @@
 use std::cell::Cell;
 use std::ops::Range;
 
-use crate::limits::{ClassSteps, Limits, RowBounds, SpeedSteps, least_by_row, least_by_steps};
+use crate::limits::{ClassSteps, Limits, RowSide, SpeedSteps, least_by_row, least_by_steps};
 use crate::path::Path;
 use crate::refusal::{Layer, Refusal};
 use crate::{CLASS_TOP, GRANTED, SPEED_TOP};
@@ -106,7 +106,7 @@ struct Visits {
 /// Visits samples in order, each with its neighbours' values around its own, what bounds it, and its floor: `allow` is the
 /// least of a sample's value and what its limit allows it.
 #[inline(always)]
-fn visit<'a, T, B>(samples: impl Iterator<Item = ((&'a [Cell<T>], B), &'a T)>, allow: impl Fn(&'a [Cell<T>], B) -> i64, narrow: impl Fn(i64) -> T) -> Visits
+fn visit<'a, T, B>(samples: impl Iterator<Item = ((&'a [Cell<T>; 3], B), &'a T)>, allow: impl Fn(&'a [Cell<T>; 3], B) -> i64, narrow: impl Fn(i64) -> T) -> Visits
 where
     T: Copy + Into<i64> + 'a,
 {
@@ -140,11 +140,11 @@ impl<T: Copy + Into<i64>> Sheet<T> {
         range: Range<usize>,
         falling: bool,
         bounds: impl DoubleEndedIterator<Item = B> + ExactSizeIterator,
-        allow: impl Fn(&'a [Cell<T>], B) -> i64,
+        allow: impl Fn(&'a [Cell<T>; 3], B) -> i64,
         narrow: impl Fn(i64) -> T,
     ) -> Visits {
         let values = Cell::from_mut(&mut self.padded[range.start..range.end + 2]).as_slice_of_cells();
-        let samples = values.windows(3).zip(bounds).zip(&self.floors[range]);
+        let samples = values.array_windows().zip(bounds).zip(&self.floors[range]);
         match falling {
             false => visit(samples, allow, narrow),
             true => visit(samples.rev(), allow, narrow),
@@ -153,26 +153,23 @@ impl<T: Copy + Into<i64>> Sheet<T> {
 }
 
 #[inline(always)]
-fn class_allowed(around: &[Cell<u8>], steps: &ClassSteps) -> i64 {
+fn class_allowed(around: &[Cell<u8>; 3], steps: &ClassSteps) -> i64 {
     let by_before = around[0].get() + steps.above_before;
     let by_after = around[2].get() + steps.above_after;
     around[1].get().min(by_before).min(by_after).into()
 }
 
 #[inline(always)]
-fn allowed_by_steps(around: &[Cell<u32>], steps: &SpeedSteps) -> i64 {
+fn allowed_by_steps(around: &[Cell<u32>; 3], steps: &SpeedSteps) -> i64 {
     least_by_steps(around[1].get().into(), around[0].get().into(), around[2].get().into(), steps)
 }
 
-/// `ends` are the first rows of the gap before the sample and of the gap after it, and the first row behind both.
+/// `ends` are the first side of a row at the sample and the first behind them.
 #[inline(always)]
-fn allowed_with_rows(around: &[Cell<u32>], steps: &SpeedSteps, ends: &[u32], rows: &[RowBounds]) -> i64 {
+fn allowed_with_rows(around: &[Cell<u32>; 3], steps: &SpeedSteps, ends: &[u32; 2], sides: &[RowSide]) -> i64 {
     let mut allowed = allowed_by_steps(around, steps);
-    for row in &rows[ends[0] as usize..ends[1] as usize] {
-        allowed = least_by_row(allowed, row.after_factor, row.before_factor, around[0].get().into(), row.after_constant);
-    }
-    for row in &rows[ends[1] as usize..ends[2] as usize] {
-        allowed = least_by_row(allowed, row.before_factor, row.after_factor, around[2].get().into(), row.before_constant);
+    for side in &sides[ends[0] as usize..ends[1] as usize] {
+        allowed = least_by_row(allowed, side, around[side.neighbour].get().into());
     }
     allowed
 }
@@ -186,11 +183,11 @@ fn class_visits(sheet: &mut Sheet<u8>, limits: &Limits, sweep: Sweep, count: usi
 fn speed_visits(sheet: &mut Sheet<u32>, limits: &Limits, sweep: Sweep, count: usize) -> Visits {
     let range = next_samples(sweep, limits.speed_steps.len(), count);
     let steps = limits.speed_steps[range.clone()].iter();
-    if limits.rows.is_empty() {
+    if limits.row_sides.is_empty() {
         return sheet.visit(range, sweep.falling, steps, allowed_by_steps, |allowed| allowed as u32);
     }
-    let ends = limits.first_rows[range.start..range.end + 2].windows(3);
-    let allow = |around, (steps, ends): (_, &[u32])| allowed_with_rows(around, steps, ends, &limits.rows);
+    let ends = limits.first_sides[range.start..=range.end].array_windows();
+    let allow = |around, (steps, ends): (_, &[u32; 2])| allowed_with_rows(around, steps, ends, &limits.row_sides);
     sheet.visit(range, sweep.falling, steps.zip(ends), allow, |allowed| allowed as u32)
 }
 

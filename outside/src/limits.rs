@@ -20,42 +20,43 @@ pub struct SpeedSteps {
     pub offset: i64,
 }
 
-/// A row as two inequalities, of the samples after and before its gap:
-/// `after_factor` × after ≤ `before_factor` × before + `after_constant`, and
-/// `before_factor` × before ≤ `after_factor` × after + `before_constant`.
+/// One side of a row, of a sample and one of its neighbours: `factor` × sample ≤ `neighbour_factor` × neighbour + `constant`.
 #[derive(Clone, Copy, Debug)]
-pub struct RowBounds {
-    pub after_factor: u32,
-    pub before_factor: u32,
-    pub after_constant: i64,
-    pub before_constant: i64,
+pub struct RowSide {
+    pub factor: u32,
+    pub neighbour_factor: u32,
+    pub constant: i64,
+    /// 0 for the sample before, 2 for the sample after: where it stands around the sample.
+    pub neighbour: usize,
 }
 
 #[derive(Clone, Debug)]
 pub struct Limits {
     pub class_steps: Vec<ClassSteps>,
     pub speed_steps: Vec<SpeedSteps>,
-    /// Those of gap i are `rows[first_rows[i + 1]..first_rows[i + 2]]`: the gap before the first sample and the one after
-    /// the last are there too, and have none.
-    pub rows: Vec<RowBounds>,
-    pub first_rows: Vec<u32>,
+    /// Those of sample i are `row_sides[first_sides[i]..first_sides[i + 1]]`, in the order of the rows.
+    pub row_sides: Vec<RowSide>,
+    pub first_sides: Vec<u32>,
 }
+
+const BEFORE: usize = 0;
+const AFTER: usize = 2;
 
 /// An offset that bounds nothing beside two samples that are not below zero.
 const NO_OFFSET: i64 = 2 * SPEED_TOP as i64;
 
-impl RowBounds {
-    fn new(row: &Row, spacing: u16) -> RowBounds {
+impl RowSide {
+    /// What a row says of the sample before its gap, and what of the sample after it.
+    fn both(row: &Row, spacing: u16) -> [RowSide; 2] {
         let twice = 2 * i64::from(spacing);
         let upper = twice * (i64::from(row.hi) - i64::from(row.g));
         let lower = twice * (i64::from(row.g) - i64::from(row.lo));
-        let (after_constant, before_constant) = if row.d > 0 { (upper, lower) } else { (lower, upper) };
-        RowBounds {
-            after_factor: row.d.unsigned_abs(),
-            before_factor: row.before_factor(spacing).unsigned_abs() as u32,
-            after_constant,
-            before_constant,
-        }
+        let (of_before, of_after) = if row.d > 0 { (lower, upper) } else { (upper, lower) };
+        let (d, e) = (row.d.unsigned_abs(), row.before_factor(spacing).unsigned_abs() as u32);
+        [
+            RowSide { factor: e, neighbour_factor: d, constant: of_before, neighbour: AFTER },
+            RowSide { factor: d, neighbour_factor: e, constant: of_after, neighbour: BEFORE },
+        ]
     }
 }
 
@@ -77,28 +78,28 @@ impl Limits {
                 offset: if i == 0 || i == last { NO_OFFSET } else { i64::from(samples[i].offset) },
             })
             .collect();
-        Limits {
-            class_steps,
-            speed_steps,
-            rows: rows.iter().map(|row| RowBounds::new(row, spacing)).collect(),
-            first_rows: first_rows(samples.len(), rows),
-        }
+        let (row_sides, first_sides) = row_sides(spacing, samples.len(), rows);
+        Limits { class_steps, speed_steps, row_sides, first_sides }
     }
 }
 
-/// The first row of each gap, the missing ones before the first sample and after the last included, and the end.
-fn first_rows(samples: usize, rows: &[Row]) -> Vec<u32> {
-    let mut first = Vec::with_capacity(samples + 2);
-    first.push(0);
-    let mut next = 0;
-    for gap in 0..samples - 1 {
-        first.push(next as u32);
-        while rows.get(next).is_some_and(|row| usize::from(row.gap) == gap) {
-            next += 1;
+/// The sides of rows by sample: those of the rows at the gap before it, then those of the rows at the gap after it.
+fn row_sides(spacing: u16, samples: usize, rows: &[Row]) -> (Vec<RowSide>, Vec<u32>) {
+    let both: Vec<[RowSide; 2]> = rows.iter().map(|row| RowSide::both(row, spacing)).collect();
+    let mut sides = Vec::with_capacity(2 * rows.len());
+    let mut first = Vec::with_capacity(samples + 1);
+    let (mut before, mut after) = (0, 0);
+    for i in 0..samples {
+        first.push(sides.len() as u32);
+        sides.extend(both[before..after].iter().map(|[_, of_after]| of_after));
+        before = after;
+        while rows.get(after).is_some_and(|row| usize::from(row.gap) == i) {
+            after += 1;
         }
+        sides.extend(both[before..after].iter().map(|[of_before, _]| of_before));
     }
-    first.extend([next as u32; 2]);
-    first
+    first.push(sides.len() as u32);
+    (sides, first)
 }
 
 /// The least of a sample's value and what the ramp and the average allow it; below zero where nothing fits.
@@ -112,11 +113,11 @@ pub fn least_by_steps(value: i64, before: i64, after: i64, steps: &SpeedSteps) -
 
 /// The least of a sample's value and what one side of a row allows it; below zero where nothing fits.
 #[inline(always)]
-pub fn least_by_row(value: i64, factor: u32, neighbour_factor: u32, neighbour: i64, constant: i64) -> i64 {
-    let right = i64::from(neighbour_factor) * neighbour + constant;
-    match i64::from(factor) * value <= right {
+pub fn least_by_row(value: i64, side: &RowSide, neighbour: i64) -> i64 {
+    let right = i64::from(side.neighbour_factor) * neighbour + side.constant;
+    match i64::from(side.factor) * value <= right {
         true => value,
         false if right < 0 => -1,
-        false => right / i64::from(factor),
+        false => right / i64::from(side.factor),
     }
 }

@@ -1,0 +1,63 @@
+//! What was compared, where it differed, and which refusals were reached.
+
+use std::collections::BTreeMap;
+use std::fmt::Debug;
+
+/// Differences that are printed; the others are only counted.
+const SHOWN: u64 = 40;
+/// The words of one printed answer.
+const WORDS: usize = 600;
+
+/// Which case of which part is at work: with the seed, all that it needs to be made again.
+#[derive(Clone, Copy)]
+pub struct Case {
+    pub seed: u64,
+    pub part: &'static str,
+    pub number: u64,
+}
+
+#[derive(Default)]
+pub struct Tally {
+    pub compared: u64,
+    pub differing: u64,
+    pub reached: BTreeMap<u32, u64>,
+    pub frames: u64,
+    pub sequences: u64,
+    pub calls: u64,
+    pub evaluations: u64,
+    pub marked_at_end: u64,
+    pub settled: u64,
+    pub impossible: u64,
+}
+
+fn short(answer: impl Debug) -> String {
+    let mut words = format!("{answer:?}");
+    if let Some((end, _)) = words.char_indices().nth(WORDS) {
+        words.truncate(end);
+        words.push('…');
+    }
+    words
+}
+
+impl Tally {
+    /// Compares one answer; what stands for it is printed where it differs.
+    pub fn same<T: PartialEq + Debug>(&mut self, case: Case, what: &str, ours: T, library: T) -> bool {
+        self.compared += 1;
+        let is_same = ours == library;
+        if !is_same {
+            self.differing += 1;
+            if self.differing <= SHOWN {
+                println!("differs: --seed {} --only {} {}: {what}", case.seed, case.part, case.number);
+                println!("  outside: {}", short(&ours));
+                println!("  library: {}", short(&library));
+            }
+        }
+        is_same
+    }
+
+    pub fn reach(&mut self, number: u32) {
+        if number != 0 {
+            *self.reached.entry(number).or_default() += 1;
+        }
+    }
+}
