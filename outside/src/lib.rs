@@ -21,4 +21,4 @@ pub const SPEED_TOP: u32 = i32::MAX as u32;
 /// The greatest permit class.
 pub const CLASS_TOP: u8 = 7;
 /// The greatest squared speed that each class grants.
-pub const GRANTED: [u32; 8] = [SPEED_TOP; 8];
+pub const GRANTED: [u32; 8] = [0, 4_096, 16_384, 65_536, 147_456, 262_144, 1_048_576, SPEED_TOP];

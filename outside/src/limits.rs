@@ -85,18 +85,17 @@ impl Limits {
 
 /// The sides of rows by sample: those of the rows at the gap before it, then those of the rows at the gap after it.
 fn row_sides(spacing: u16, samples: usize, rows: &[Row]) -> (Vec<RowSide>, Vec<u32>) {
-    let both: Vec<[RowSide; 2]> = rows.iter().map(|row| RowSide::both(row, spacing)).collect();
     let mut sides = Vec::with_capacity(2 * rows.len());
     let mut first = Vec::with_capacity(samples + 1);
     let (mut before, mut after) = (0, 0);
     for i in 0..samples {
         first.push(sides.len() as u32);
-        sides.extend(both[before..after].iter().map(|[_, of_after]| of_after));
+        sides.extend(rows[before..after].iter().map(|row| RowSide::both(row, spacing)[1]));
         before = after;
         while rows.get(after).is_some_and(|row| usize::from(row.gap) == i) {
             after += 1;
         }
-        sides.extend(both[before..after].iter().map(|[of_before, _]| of_before));
+        sides.extend(rows[before..after].iter().map(|row| RowSide::both(row, spacing)[0]));
     }
     first.push(sides.len() as u32);
     (sides, first)
