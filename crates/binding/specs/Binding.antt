@@ -3,8 +3,7 @@ use Rattle.std.specs.Prelude.{◌≡◌, ℕ, Bool, true, cond, ◌&&◌, length
 use Rattle.frame.specs.Paths.{Path}
 use Rattle.runs.specs.declared.stage.Make.{Make}
 use Rattle.runs.specs.declared.stage.Make.TheVariants.{Classes, Speeds}
-use Rattle.runs.specs.InForce.{Bounds}
-use Rattle.runs.specs.Keeping.{Greatest, own}
+use Rattle.runs.specs.Keeping.{Greatest, own, bounds_in}
 use Rattle.runs.specs.Sheets.{Sheets, sheet, cell}
 use Rattle.sources.specs.Sources.{class_number, speed_number}
 use Rattle.job.specs.Whole.{setting, top_of}
@@ -31,11 +30,8 @@ bound_of path S m i = bound_in_of (first (Reaches (cell (sheet S m) i).value) (a
 abbrev pub binding : Path → Sheets → Make → ℕ → Option Bound
 binding path S m i = cond (inside S m i) (bound_of path S m i) None
 
--- the caps and floors that the cells hold
-abbrev pub bounds_in : Sheets → Bounds
-bounds_in S = record { cap = λ m i. (cell (sheet S m) i).cap; floor = λ m i. (cell (sheet S m) i).floor }
-
--- the sheets hold the greatest pair that keeps the path's limits, the class table and the cells' own caps and floors
+-- the sheets hold the greatest pair that keeps the path's limits, the class table and the cells' own caps and floors, as those
+-- of every settled job do
 abbrev pub HoldGreatest : Path → Sheets → Type 0
 HoldGreatest path S = Greatest (setting (length S.classes) (class_number path) (speed_number path)) (bounds_in S) (own S)
 

@@ -26,6 +26,12 @@ module _ (σ : Setting) where
     floored = λ m i h. omega (arith, (same m i h).1, k.floored m i h);
   }
 
+  pub greatest_same : (b b' : Bounds) → SameBounds σ b b' → (P : Pair) → Greatest σ b P → Greatest σ b' P
+  greatest_same b b' same P g = record {
+    keeping = keeps_same b b' same P g.keeping;
+    above = λ Q k. g.above Q (keeps_same b' b (same_sym b b' same) Q k);
+  }
+
   -- there is one greatest pair
   greatest_unique : (b b' : Bounds) → SameBounds σ b b' → (P Q : Pair) → Greatest σ b P → Greatest σ b' Q → P ≡ Q
   greatest_unique b b' same P Q g g' = fun_ext (λ m. ext_get_or 0 (P m) (Q m) (long m)

@@ -1,5 +1,5 @@
 -- What holds after a sequence of calls, from the invariant.
-use Rattle.std.proofs.Common.{◌≡◌, ℕ, ◌<◌, ◌≤◌, ◌⊎◌, List, [], ◌∷◌, ◌++◌, Ok, sym, refl, ◌∙◌, subst, arith}
+use Rattle.std.proofs.Common.{◌≡◌, ℕ, ◌<◌, ◌≤◌, ◌⊎◌, List, [], ◌∷◌, ◌++◌, Ok, true, sym, refl, ◌∙◌, subst, arith}
 use Rattle.runs.specs.declared.stage.Make.{Make}
 use Rattle.runs.specs.declared.stage.Make.TheVariants.{Classes, Speeds}
 use Rattle.runs.specs.declared.stage.Stage.TheVariants.{Settled, Impossible}
@@ -13,13 +13,13 @@ use Rattle.runs.specs.Settings.{Setting, SettingLaw}
 use Rattle.runs.specs.Sheets.{Sheets, sheet}
 use Rattle.runs.specs.Jobs.{Job}
 use Rattle.runs.specs.Making.{Start, StartLaw, made}
-use Rattle.runs.specs.Calls.{called, answered}
+use Rattle.runs.specs.Calls.{called, answered, is_possible}
 use Rattle.runs.specs.Runs.{run, after}
 use Rattle.runs.specs.InForce.{Bounds, given, in_force}
-use Rattle.runs.specs.Keeping.{Pair, KeepsAll, Greatest, own}
-use Rattle.runs.specs.Law.{Ended, enough}
+use Rattle.runs.specs.Keeping.{Pair, KeepsAll, Greatest, own, bounds_in}
+use Rattle.runs.specs.Law.{Ended, SameBounds, enough}
 use Rattle.runs.proofs.Cells.{rank_values, length-values}
-use Rattle.runs.proofs.Standing.{Standing, Stands}
+use Rattle.runs.proofs.Standing.{Standing, Stands, parts}
 use Rattle.runs.proofs.Making.{made_stands}
 use Rattle.runs.proofs.Calling.{run_stands}
 use Rattle.runs.proofs.Ending.{advance_ends, advance_spends}
@@ -64,6 +64,12 @@ module _ (σ : Setting) (law : SettingLaw σ) (s : Start) (start : StartLaw σ s
   run_impossible cs i e =
       let j : Job = after σ s cs in
       subst (λ t. Standing σ (in_force σ s cs) t j.sweep j.sheets) e (stands cs)
+
+  pub run_holds : (cs : List Call) → is_possible (after σ s cs).stage ≡ true → SameBounds σ (in_force σ s cs) (bounds_in (after σ s cs).sheets)
+  run_holds cs p m i h =
+      let j : Job = after σ s cs in
+      let c = (parts σ (in_force σ s cs) j.stage j.sweep j.sheets p (stands cs)).0.each m i h in
+      (sym c.cap_is, sym c.floor_is)
 
   pub run_ends : (cs before : List Call) (k : ℕ) → cs ≡ before ++ (Advance k ∷ []) → enough σ (after σ s before).sheets ≤ k → Ended (after σ s cs).stage
   run_ends cs before k last h =

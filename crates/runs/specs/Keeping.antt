@@ -5,7 +5,7 @@ use Rattle.runs.specs.declared.stage.Make.TheVariants.{Classes, Speeds}
 use Rattle.grade.specs.Profiles.{Profile, rank, AtMost}
 use Rattle.limit.specs.Numbers.{KeptAt}
 use Rattle.runs.specs.Settings.{Setting}
-use Rattle.runs.specs.Sheets.{Sheets, values, sheet}
+use Rattle.runs.specs.Sheets.{Sheets, values, sheet, cell}
 use Rattle.runs.specs.InForce.{Bounds}
 
 -- a class profile and a speed profile
@@ -29,3 +29,7 @@ pub record Greatest (σ : Setting) (b : Bounds) (P : Pair) : Type 0 where
 -- the pair that a job's sheets hold: its class values and its speed values
 abbrev pub own : Sheets → Pair
 own S m = values (sheet S m)
+
+-- the caps and floors that the cells of the sheets hold
+abbrev pub bounds_in : Sheets → Bounds
+bounds_in S = record { cap = λ m i. (cell (sheet S m) i).cap; floor = λ m i. (cell (sheet S m) i).floor }

@@ -1,5 +1,5 @@
 -- The law of the job: what is true after every sequence of calls, said of the start and the calls alone.
-use Rattle.std.specs.Prelude.{◌≡◌, ℕ, ◌+◌, ◌*◌, ◌<◌, ◌≤◌, ◌⊎◌, List, [], ◌∷◌, ◌++◌, sum, ◌≢◌, Ok}
+use Rattle.std.specs.Prelude.{◌≡◌, ℕ, ◌+◌, ◌*◌, ◌<◌, ◌≤◌, ◌⊎◌, List, [], ◌∷◌, ◌++◌, sum, ◌≢◌, true, Ok}
 use Rattle.runs.specs.declared.stage.Make.{Make}
 use Rattle.runs.specs.declared.stage.Make.TheVariants.{Classes, Speeds}
 use Rattle.runs.specs.declared.stage.Stage.{Stage}
@@ -13,10 +13,10 @@ use Rattle.runs.specs.Settings.{Setting, SettingLaw}
 use Rattle.runs.specs.Sheets.{Sheets}
 use Rattle.runs.specs.Jobs.{Job}
 use Rattle.runs.specs.Making.{Start, StartLaw}
-use Rattle.runs.specs.Calls.{answered}
+use Rattle.runs.specs.Calls.{answered, is_possible}
 use Rattle.runs.specs.Runs.{after}
 use Rattle.runs.specs.InForce.{Bounds, in_force}
-use Rattle.runs.specs.Keeping.{Pair, KeepsAll, Greatest, own}
+use Rattle.runs.specs.Keeping.{Pair, KeepsAll, Greatest, own, bounds_in}
 
 -- the work is over: settled or impossible
 abbrev pub Ended : Stage → Type 0
@@ -41,6 +41,10 @@ pub record RunLaw (σ : Setting) (s : Start) (cs : List Call) (j : Job) : Type 0
   pub settled : j.stage ≡ Settled → Greatest σ (in_force σ s cs) (own j.sheets)
   -- impossible: no pair keeps everything in force
   pub impossible : (i : ℕ) → j.stage ≡ Impossible i → (P : Pair) → KeepsAll σ (in_force σ s cs) P → ⊥
+  -- as long as it is not impossible, the caps and floors in its cells are those in force
+  pub holds : is_possible j.stage ≡ true → SameBounds σ (in_force σ s cs) (bounds_in j.sheets)
+  -- so a settled job's own pair is the greatest under the caps and floors of its cells too
+  pub held : j.stage ≡ Settled → Greatest σ (bounds_in j.sheets) (own j.sheets)
   -- a last advance whose allowance was enough, by the sums where it began, has ended the work
   pub ends : (before : List Call) (k : ℕ) → cs ≡ before ++ (Advance k ∷ []) → enough σ (after σ s before).sheets ≤ k → Ended j.stage
   -- a last advance that was done used its whole allowance or ended the work, and used no more than enough
