@@ -18,7 +18,7 @@ use Rattle.sources.specs.Sources.{class_steps, speed_steps, rows_of, class_numbe
 use Rattle.runs.specs.declared.stage.Make.{Make}
 use Rattle.runs.specs.declared.stage.Make.TheVariants.{Classes, Speeds}
 use Rattle.runs.specs.Sheets.{Sheets, sheet, cell}
-use Rattle.runs.specs.Keeping.{own}
+use Rattle.runs.specs.Keeping.{own, bounds_in}
 use Rattle.runs.specs.Settings.{Setting}
 use Rattle.runs.proofs.Cells.{rank_values}
 use Rattle.job.specs.Table.{entry}
@@ -28,7 +28,7 @@ use Rattle.binding.specs.declared.bound.Bound.TheVariants.{Cap, Class as ByClass
 use Rattle.binding.specs.declared.bound.Clash.{Clash}
 use Rattle.binding.specs.declared.bound.Found.{Found}
 use Rattle.binding.specs.declared.question.Question.TheVariants.{Reaches}
-use Rattle.binding.specs.Binding.{inside, bound_in_of, bound_of, binding, bounds_in, HoldGreatest, Binds}
+use Rattle.binding.specs.Binding.{inside, bound_in_of, bound_of, binding, HoldGreatest, Binds}
 use Rattle.binding.specs.Bounds.{granted, allowed, rows_from, bounds_of, least_of, number_on, together}
 use Rattle.binding.specs.Clashing.{clash_in_of, clash_of, clashing, Clashes}
 use Rattle.binding.specs.Questions.{first}
