@@ -7,3 +7,4 @@ pub mod Making
 pub mod Steps
 pub mod Table
 pub mod Whole
+pub mod Parts

@@ -10,11 +10,13 @@ mod job;
 mod limits;
 mod looking;
 mod making;
+mod parts;
 mod pouring;
 mod stepping;
 mod table;
 
 pub use job::Job;
 pub use limits::Limits;
+pub use parts::Parts;
 pub use runs::{Progress, Sight};
 pub use table::top_speed;
