@@ -30,6 +30,9 @@ impl Layout {
     }
 }
 
+/// A path of more samples has no floors at first, since one above its cap would be all that a comparison sees.
+const MANY: usize = 500;
+
 /// How large a frame's numbers are.
 #[derive(Clone, Copy)]
 struct Scale {
@@ -40,9 +43,11 @@ struct Scale {
     floors: u64,
     spacing: u64,
     factor: u64,
+    /// Rows and offsets that may well let nothing fit, of a hundred.
+    narrow: u64,
 }
 
-fn scale(random: &Random) -> Scale {
+fn scale(random: &Random, samples: usize) -> Scale {
     let speed = random.pick(&[3, 20, 20, 300, 5_000, 100_000, 10_000_000, u64::from(TOP)]);
     let step = match random.up_to(5) {
         0 => u64::from(TOP),
@@ -59,7 +64,8 @@ fn scale(random: &Random) -> Scale {
         speed,
         step,
         offset,
-        floors: random.pick(&[0, 0, 0, 5, 20, 60]),
+        floors: if samples > MANY { 0 } else { random.pick(&[0, 0, 0, 5, 20, 60]) },
+        narrow: if samples > MANY { 0 } else { 6 },
         spacing: random.pick(&[1, 2, 10, 65_535]),
         factor: random.pick(&[1, 4, 1000, ROW_TOP as u64]),
     }
@@ -133,6 +139,7 @@ fn sample(out: &mut Writer, random: &Random, scale: Scale, is_inner: bool) {
     out.four(if has_floor { random.of_any_size(scale.speed) } else { 0 });
     let offset = match random.up_to(9) {
         _ if !is_inner => 0,
+        0..=2 if !random.percent(5 * scale.narrow) => random.of_any_size(scale.offset) as i64,
         0 => random.pick(&[i64::from(i32::MIN), -1, 0, 1, i64::from(i32::MAX)]),
         1 | 2 => -(random.of_any_size(scale.offset) as i64),
         _ => random.up_to(scale.offset) as i64,
@@ -170,14 +177,13 @@ fn row(out: &mut Writer, random: &Random, scale: Scale, gap: usize, spacing: u64
     };
     let reach = (scale.speed as i64 * limit / (2 * spacing as i64 * 4) + 2).min(ROW_TOP / 2);
     let g = random.between(-reach, reach);
-    let is_open = random.percent(95);
-    let (lo, hi) = match is_open {
-        true => (g - random.up_to(reach as u64) as i64, g + random.up_to(reach as u64) as i64),
-        false => {
-            let lo = random.between(-reach, reach);
-            (lo, lo + random.up_to(reach as u64) as i64)
-        }
+    let width = random.up_to(reach as u64) as i64;
+    let lo = match random.percent(scale.narrow) {
+        true => random.between(-reach, reach),
+        // at standstill the torque is g
+        false => g - random.up_to(width as u64) as i64,
     };
+    let hi = lo + width;
     out.two(gap as u64);
     out.two(0);
     for number in [d, c, g, lo.max(-ROW_TOP), hi.min(ROW_TOP)] {
@@ -187,7 +193,7 @@ fn row(out: &mut Writer, random: &Random, scale: Scale, gap: usize, spacing: u64
 
 /// A frame of so many samples and rows that every question lets through.
 pub fn frame(random: &Random, layout: Layout) -> Vec<u8> {
-    let scale = scale(random);
+    let scale = scale(random, layout.samples);
     let spacing = 1 + random.up_to(scale.spacing - 1);
     let lateral = match random.up_to(3) {
         0 => 0,

@@ -6,6 +6,7 @@
 mod linked;
 
 mod calls;
+mod events;
 mod frames;
 mod ours;
 mod parts;
@@ -13,6 +14,7 @@ mod random;
 mod sequences;
 mod tally;
 
+use std::fmt::Display;
 use std::process::ExitCode;
 use std::time::Instant;
 use tally::{Case, Tally};
@@ -60,10 +62,9 @@ fn run(tally: &mut Tally, seed: u64, (part, count, case): Part) {
 }
 
 /// Every question that a call of the library can refuse by.
-const QUESTIONS: [u32; 32] = [
-    10, 11, 12, 13, 14, 15, 16, 17, 18, 20, 21, 22, 23, 24, 25, 30, 31, 32, 40, 41, 42, 43, 44, 45, 46, 50, 51, 60, 61, 62, 70, 71,
+const QUESTIONS: [u32; 33] = [
+    10, 11, 12, 13, 14, 15, 16, 17, 18, 20, 21, 22, 23, 24, 25, 30, 31, 32, 40, 41, 42, 43, 44, 45, 46, 50, 51, 60, 61, 62, 70, 71, 72,
 ];
-const PATH_WRITER: u32 = 72;
 
 fn main() -> ExitCode {
     let wanted = match wanted() {
@@ -92,18 +93,21 @@ fn main() -> ExitCode {
     report(&tally, wanted.only.is_none())
 }
 
+fn counts(counts: impl Iterator<Item = (impl Display, u64)>) -> String {
+    counts.map(|(what, count)| format!("{what}: {count}")).collect::<Vec<_>>().join(", ")
+}
+
+/// What was met and what was not; a whole run is to meet all.
 fn report(tally: &Tally, is_whole: bool) -> ExitCode {
-    println!(
-        "{} frames, {} sequences of {} calls with {} evaluations: {} settled, {} impossible; {} sweeps were marked at a chunk's end",
-        tally.frames, tally.sequences, tally.calls, tally.evaluations, tally.settled, tally.impossible, tally.marked_at_end
-    );
-    let reached: Vec<String> = tally.reached.iter().map(|(number, count)| format!("{number}: {count}")).collect();
-    println!("refusals reached: {}", reached.join(", "));
-    let missed: Vec<u32> = QUESTIONS.into_iter().chain([PATH_WRITER]).filter(|number| !tally.reached.contains_key(number)).collect();
-    let is_missed = is_whole && !missed.is_empty();
-    if is_missed {
-        println!("never reached: {missed:?}");
+    println!("{} frames, {} sequences of {} calls with {} evaluations", tally.frames, tally.sequences, tally.calls, tally.evaluations);
+    println!("what jobs came to: {}", counts(tally.events.iter().map(|(&event, &count)| (event, count))));
+    println!("refusals reached: {}", counts(tally.reached.iter().map(|(&number, &count)| (number, count))));
+    let refusals = QUESTIONS.iter().filter(|number| !tally.reached.contains_key(number)).map(u32::to_string);
+    let events = events::EVERY.iter().filter(|event| !tally.events.contains_key(*event)).map(|event| event.to_string());
+    let missed: Vec<String> = refusals.chain(events).filter(|_| is_whole).collect();
+    if !missed.is_empty() {
+        println!("never reached: {}", missed.join(", "));
     }
     println!("{} compared, {} differ", tally.compared, tally.differing);
-    if tally.differing > 0 || is_missed { ExitCode::FAILURE } else { ExitCode::SUCCESS }
+    if tally.differing > 0 || !missed.is_empty() { ExitCode::FAILURE } else { ExitCode::SUCCESS }
 }

@@ -1,6 +1,7 @@
 //! Jobs: made in memories of every length, then random calls, then setpoints.
 
 use crate::calls;
+use crate::events;
 use crate::frames::{self, Layout};
 use crate::linked::{Answer, Call, ClassCell, SpeedCell, Work};
 use crate::ours::{self, ADVANCE};
@@ -46,10 +47,7 @@ impl Both {
             let call = calls::call(random, &self.job, &self.path, budget);
             calls.push(call);
             if let Some(answer) = expected.get_mut(step) {
-                *answer = ours::call(&mut self.job, &self.path, call);
-                tally.calls += 1;
-                tally.evaluations += answer.evaluations;
-                tally.reach(answer.number);
+                *answer = self.call(tally, call);
             }
         }
         let mut answers = vec![UNWRITTEN; r];
@@ -61,7 +59,19 @@ impl Both {
         }
         self.expect();
         self.compare(tally, &format!("{calls:?}"));
-        tally.marked_at_end += u64::from(self.expected.job.marked);
+    }
+
+    /// A call on this planner's job alone.
+    fn call(&mut self, tally: &mut Tally, call: Call) -> Answer {
+        let before = self.job.clone();
+        let answer = ours::call(&mut self.job, &self.path, call);
+        tally.calls += 1;
+        tally.evaluations += answer.evaluations;
+        tally.reach(answer.number);
+        if answer.number == 0 {
+            events::of_call(&before, call, &self.job).into_iter().for_each(|event| tally.happened(event));
+        }
+        answer
     }
 
     /// One advance that does not read the frame again.
@@ -69,17 +79,18 @@ impl Both {
         let call = calls::call(random, &self.job, &self.path, budget);
         let is_advance = call.kind == ADVANCE;
         let value = if is_advance { call.value } else { random.up_to(2 * self.layout.samples as u64) };
-        let expected = ours::call(&mut self.job, &self.path, Call { value, ..Call::default() });
-        tally.calls += 1;
-        tally.evaluations += expected.evaluations;
-        tally.reach(expected.number);
-        let answer = self.library.advance(&self.frame, value);
-        tally.same(self.case, &format!("the answer to an advance by {value}"), expected, answer);
-        self.expect();
-        self.compare(tally, &format!("an advance by {value}"));
+        self.advance_by(tally, value);
     }
 
-    /// A run and a making on a damaged frame change nothing; nor does a making in memories too short.
+    fn advance_by(&mut self, tally: &mut Tally, allowance: u64) {
+        let expected = self.call(tally, Call { value: allowance, ..Call::default() });
+        let answer = self.library.advance(&self.frame, allowance);
+        tally.same(self.case, &format!("the answer to an advance by {allowance}"), expected, answer);
+        self.expect();
+        self.compare(tally, &format!("an advance by {allowance}"));
+    }
+
+    /// A run and a making on a damaged frame change nothing.
     fn refused(&mut self, tally: &mut Tally, random: &Random) {
         let frame = parts::damaged(random, self.frame.clone(), self.layout);
         let read = Path::read(&frame);
@@ -121,12 +132,16 @@ impl Both {
         self.compare(tally, "setpoints");
         if written.is_ok() {
             // the job is spent: it takes a new one to go on
-            let words = self.library.make(&self.frame);
-            tally.same(self.case, "the refusal of a making after setpoints", ours::NO_REFUSAL, words);
-            self.job = Job::make(&self.path);
-            self.expect();
-            self.compare(tally, "a making after setpoints");
+            self.make_again(tally);
         }
+    }
+
+    fn make_again(&mut self, tally: &mut Tally) {
+        let words = self.library.make(&self.frame);
+        tally.same(self.case, "the refusal of another making", ours::NO_REFUSAL, words);
+        self.job = Job::make(&self.path);
+        self.expect();
+        self.compare(tally, "another making");
     }
 }
 
@@ -170,6 +185,7 @@ fn make(tally: &mut Tally, case: Case, random: &Random, layout: Layout) -> Optio
         tally.same(case, "the job and the cells of a refused making", expected, library);
         return None;
     };
+    events::of_making(&job).into_iter().for_each(|event| tally.happened(event));
     ours::put(&job, &mut expected);
     let both = Both { case, frame, layout, path, job, library, expected };
     both.compare(tally, "a making");
@@ -183,6 +199,9 @@ fn sequence(tally: &mut Tally, case: Case, layout: Layout, chunks: usize, budget
     let Some(mut both) = make(tally, case, random, layout) else { return };
     tally.sequences += 1;
     for _ in 0..chunks {
+        if matches!(both.job.state, State::Impossible { .. }) && random.percent(60) {
+            both.make_again(tally);
+        }
         match random.up_to(19) {
             0 => both.refused(tally, random),
             1 => both.setpoints(tally, random),
@@ -192,26 +211,9 @@ fn sequence(tally: &mut Tally, case: Case, layout: Layout, chunks: usize, budget
         }
     }
     if calls::enough(&both.job, &both.path, budget).is_some() {
-        both.finish(tally, u64::MAX);
-    }
-    match both.job.state {
-        State::Settled => tally.settled += 1,
-        State::Impossible { .. } => tally.impossible += 1,
-        State::Classes | State::Speeds => {}
+        both.advance_by(tally, u64::MAX);
     }
     both.setpoints(tally, random);
-}
-
-impl Both {
-    fn finish(&mut self, tally: &mut Tally, allowance: u64) {
-        let expected = ours::call(&mut self.job, &self.path, Call { value: allowance, ..Call::default() });
-        let answer = self.library.advance(&self.frame, allowance);
-        tally.calls += 1;
-        tally.evaluations += expected.evaluations;
-        tally.same(self.case, "the answer to the last advance", expected, answer);
-        self.expect();
-        self.compare(tally, "the last advance");
-    }
 }
 
 pub fn short(tally: &mut Tally, case: Case) {

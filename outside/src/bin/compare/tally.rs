@@ -25,9 +25,8 @@ pub struct Tally {
     pub sequences: u64,
     pub calls: u64,
     pub evaluations: u64,
-    pub marked_at_end: u64,
-    pub settled: u64,
-    pub impossible: u64,
+    /// How often each thing happened that a job can come to.
+    pub events: BTreeMap<&'static str, u64>,
 }
 
 fn short(answer: impl Debug) -> String {
@@ -53,6 +52,10 @@ impl Tally {
             }
         }
         is_same
+    }
+
+    pub fn happened(&mut self, event: &'static str) {
+        *self.events.entry(event).or_default() += 1;
     }
 
     pub fn reach(&mut self, number: u32) {
