@@ -3,6 +3,7 @@
 //! `Path::read` takes a path frame apart once and works out what the limits need; `Job::make` starts a job on it and
 //! `Job::advance` works on the job.
 
+pub mod binding;
 pub mod caps;
 pub mod job;
 pub mod limits;
