@@ -30,14 +30,17 @@ mod at {
     pub const ROWS: usize = 13;
 }
 
+#[inline(always)]
 fn two(bytes: &[u8], from: usize) -> u16 {
     u16::from_be_bytes([bytes[from], bytes[from + 1]])
 }
 
+#[inline(always)]
 fn four(bytes: &[u8], from: usize) -> u32 {
     u32::from_be_bytes([bytes[from], bytes[from + 1], bytes[from + 2], bytes[from + 3]])
 }
 
+#[inline(always)]
 fn signed(bytes: &[u8], from: usize) -> i32 {
     four(bytes, from) as i32
 }
@@ -119,7 +122,7 @@ pub fn clause(kind: u8, first: u32, second: u32) -> Result<Clause, usize> {
     }
 }
 
-fn read_sample(bytes: &[u8], start: usize, at_an_end: bool, lateral: u32) -> Result<Sample, Refusal> {
+fn read_sample(bytes: &[u8; SAMPLE], start: usize, at_an_end: bool, lateral: u32) -> Result<Sample, Refusal> {
     let origin = Origin { layer: Layer::Sample, start };
     let (kind, class_cap, class_floor) = (bytes[0], bytes[1], bytes[2]);
     origin.ask(kind <= 3, 20, 0)?;
@@ -137,7 +140,7 @@ fn read_sample(bytes: &[u8], start: usize, at_an_end: bool, lateral: u32) -> Res
     Ok(Sample { clause, class_cap, class_floor, speed_cap: caps::cap(clause, lateral), speed_floor, offset })
 }
 
-fn read_gap(bytes: &[u8], start: usize) -> Result<Gap, Refusal> {
+fn read_gap(bytes: &[u8; GAP], start: usize) -> Result<Gap, Refusal> {
     let origin = Origin { layer: Layer::Gap, start };
     let (rise, fall, up, down) = (bytes[0], bytes[1], four(bytes, 4), four(bytes, 8));
     origin.ask(rise <= CLASS_TOP, 30, 0)?;
@@ -148,7 +151,7 @@ fn read_gap(bytes: &[u8], start: usize) -> Result<Gap, Refusal> {
     Ok(Gap { rise, fall, up, down })
 }
 
-fn read_row(bytes: &[u8], start: usize, samples: usize, gap_before: u16, spacing: u16) -> Result<Row, Refusal> {
+fn read_row(bytes: &[u8; ROW], start: usize, samples: usize, gap_before: u16, spacing: u16) -> Result<Row, Refusal> {
     let origin = Origin { layer: Layer::Torque, start };
     let gap = two(bytes, 0);
     origin.ask(usize::from(gap) + 2 <= samples, 40, 0)?;
@@ -183,15 +186,15 @@ impl Path {
         let samples_end = HEAD + SAMPLE * head.samples;
         let gaps_end = samples_end + GAP * last;
         let mut samples = Vec::with_capacity(head.samples);
-        for (i, bytes) in frame[HEAD..samples_end].chunks_exact(SAMPLE).enumerate() {
+        for (i, bytes) in frame[HEAD..samples_end].as_chunks().0.iter().enumerate() {
             samples.push(read_sample(bytes, HEAD + SAMPLE * i, i == 0 || i == last, head.lateral)?);
         }
         let mut gaps = Vec::with_capacity(last);
-        for (i, bytes) in frame[samples_end..gaps_end].chunks_exact(GAP).enumerate() {
+        for (i, bytes) in frame[samples_end..gaps_end].as_chunks().0.iter().enumerate() {
             gaps.push(read_gap(bytes, samples_end + GAP * i)?);
         }
         let mut rows: Vec<Row> = Vec::with_capacity(head.rows);
-        for (k, bytes) in frame[gaps_end..].chunks_exact(ROW).enumerate() {
+        for (k, bytes) in frame[gaps_end..].as_chunks().0.iter().enumerate() {
             let gap_before = rows.last().map_or(0, |row| row.gap);
             rows.push(read_row(bytes, gaps_end + ROW * k, head.samples, gap_before, head.spacing)?);
         }
