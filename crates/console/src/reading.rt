@@ -3,7 +3,7 @@ ghost use Rattle.std.specs.Prelude.{◌≡◌, ◌↔◌, true, IsOk, IfOk};
 ghost use Rattle.frame.specs.Paths.{accepted};
 
 use super::stop::{Stop, reported};
-use frame::{PathFrame, Refusal, read};
+use frame::{PathFrame, Refusal};
 use std::fmt;
 
 // Says which question refuses a frame, and what it asks: the stop for it.
@@ -24,6 +24,6 @@ pub fn accept<'a>(rt: &HostRuntime, bytes: &'a [u8]) -> Result<PathFrame<'a>, St
     ensures accepts { IsOk result ↔ (accepted bytes.now ≡ true) }
     ensures view { IfOk result (λ frame. frame.bytes.now ≡ bytes.now) }
 {
-    read(bytes).map_err(|fault| refuse(rt, fault.refusal(), fault))?;
-    Ok(PathFrame::over(bytes))
+    let frame = PathFrame::read(bytes).map_err(|fault| refuse(rt, fault.refusal(), fault))?;
+    Ok(frame)
 }

@@ -1,18 +1,29 @@
 // The records of an accepted frame, by their numbers.
-ghost use Rattle.std.specs.Prelude.{◌≡◌, true, length};
-ghost use Rattle.frame.specs.Paths.{accepted, header_at};
+ghost use Rattle.std.specs.Prelude.{◌≡◌, ◌↔◌, true, length, Err, IsOk, IfOk, IfErr};
+ghost use Rattle.frame.specs.Paths.{accepted, header_at, path_read};
 ghost use Rattle.frame.specs.Views.{path_of, nth, CapShown};
 
 use super::body::Body;
+use super::fault::FrameFault;
 use super::header::Header;
-use super::reading::header_at;
+use super::reading::{header_at, read};
 use super::records::record_at;
 use super::view::PathFrame;
 use record::Sample;
 use words::see_bytes;
 
 impl<'a> PathFrame<'a> {
-    /// The view of bytes that `read` accepted.
+    /// Reads a path frame: its view, or the one refusal.
+    pub fn read(bytes: &'a [u8]) -> Result<PathFrame<'a>, FrameFault>
+        ensures accepts { IsOk result ↔ (accepted bytes.now ≡ true) }
+        ensures view { IfOk result (λ frame. frame.bytes.now ≡ bytes.now) }
+        ensures refuses { IfErr result (λ fault. path_read bytes.now ≡ Err fault) }
+    {
+        read(bytes)?;
+        Ok(PathFrame { bytes })
+    }
+
+    /// The view of bytes that the function `read` accepted.
     pub fn over(bytes: &'a [u8]) -> PathFrame<'a>
         requires { accepted bytes.now ≡ true }
         ensures { result.bytes.now ≡ bytes.now }
