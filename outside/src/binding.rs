@@ -59,7 +59,8 @@ fn speed_bounds(job: &Job, path: &Path, sample: usize) -> Vec<Allowed> {
     let (values, limits) = (job.speeds.values(), &path.limits);
     let (before, after) = (neighbour(values, sample, true), neighbour(values, sample, false));
     let steps = &limits.speed_steps[sample];
-    let raised = |value: Option<u32>, step: u32| i64::from(SPEED_TOP).min(i64::from(value.unwrap_or(SPEED_TOP)) + i64::from(step));
+    let raised =
+        |value: Option<u32>, step: u32| i64::from(SPEED_TOP).min(i64::from(value.unwrap_or(SPEED_TOP)) + i64::from(step));
     let class = usize::from(job.classes.values()[sample]);
     let mut bounds = vec![
         Allowed { bound: Bound::Cap, most: job.speeds.caps[sample].into() },

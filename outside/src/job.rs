@@ -20,7 +20,9 @@ pub enum State {
     Speeds,
     Settled,
     /// Found at this sample.
-    Impossible { found: usize },
+    Impossible {
+        found: usize,
+    },
 }
 
 /// Which of the two sheets a cut or a lift is about.
@@ -106,7 +108,11 @@ struct Visits {
 /// Visits samples in order, each with its neighbours' values around its own, what bounds it, and its floor: `allow` is the
 /// least of a sample's value and what its limit allows it.
 #[inline(always)]
-fn visit<'a, T, B>(samples: impl Iterator<Item = ((&'a [Cell<T>; 3], B), &'a T)>, allow: impl Fn(&'a [Cell<T>; 3], B) -> i64, narrow: impl Fn(i64) -> T) -> Visits
+fn visit<'a, T, B>(
+    samples: impl Iterator<Item = ((&'a [Cell<T>; 3], B), &'a T)>,
+    allow: impl Fn(&'a [Cell<T>; 3], B) -> i64,
+    narrow: impl Fn(i64) -> T,
+) -> Visits
 where
     T: Copy + Into<i64> + 'a,
 {

@@ -118,7 +118,13 @@ mod c {
             room: usize,
             refusal: *mut Refusal,
         ) -> u64;
-        pub fn furqyzet_sufficient(classes: *const ClassCell, n: usize, speeds: *const SpeedCell, m: usize, job: *const Job) -> u64;
+        pub fn furqyzet_sufficient(
+            classes: *const ClassCell,
+            n: usize,
+            speeds: *const SpeedCell,
+            m: usize,
+            job: *const Job,
+        ) -> u64;
     }
 }
 

@@ -36,7 +36,15 @@ fn bad_ones_are_refused() {
 
 #[test]
 fn jobs_end() {
-    for (name, is_settled) in [("five", true), ("three", true), ("bends", true), ("torque", true), ("steep", false), ("slow-class", false), ("low-cap", false)] {
+    for (name, is_settled) in [
+        ("five", true),
+        ("three", true),
+        ("bends", true),
+        ("torque", true),
+        ("steep", false),
+        ("slow-class", false),
+        ("low-cap", false),
+    ] {
         let path = Path::read(&sample(name)).expect("a good sample");
         let mut job = Job::make(&path);
         if job.state == State::Classes {

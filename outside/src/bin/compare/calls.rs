@@ -21,8 +21,12 @@ pub fn sample(random: &Random, n: usize) -> u64 {
 fn value(random: &Random, job: &Job, make: Make, sample: u64) -> u64 {
     let i = sample as usize % job.samples();
     let (value, cap, floor, top) = match make {
-        Make::Classes => (u64::from(job.classes.values()[i]), u64::from(job.classes.caps[i]), u64::from(job.classes.floors[i]), 7),
-        Make::Speeds => (u64::from(job.speeds.values()[i]), u64::from(job.speeds.caps[i]), u64::from(job.speeds.floors[i]), 0x7fff_ffff),
+        Make::Classes => {
+            (u64::from(job.classes.values()[i]), u64::from(job.classes.caps[i]), u64::from(job.classes.floors[i]), 7)
+        }
+        Make::Speeds => {
+            (u64::from(job.speeds.values()[i]), u64::from(job.speeds.caps[i]), u64::from(job.speeds.floors[i]), 0x7fff_ffff)
+        }
     };
     match random.up_to(13) {
         0 => random.pick(&[top, top + 1, u64::MAX, 1 << 32 | value, 1 << 31 | value, 256 | value, random.next()]),

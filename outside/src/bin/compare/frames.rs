@@ -73,9 +73,9 @@ fn scale(random: &Random, samples: usize) -> Scale {
 
 pub fn binary32(random: &Random) -> u32 {
     const SPECIAL: [u32; 22] = [
-        0x0000_0000, 0x8000_0000, 0x0000_0001, 0x8000_0001, 0x007f_ffff, 0x0080_0000, 0x807f_ffff, 0x8080_0000, 0x3f80_0000, 0xbf80_0000,
-        0x7f80_0000, 0xff80_0000, 0x7fc0_0000, 0xffc0_0000, 0x7f80_0001, 0x7f7f_ffff, 0xff7f_ffff, 0x4335_0000, 0x4336_0000, 0x3dcc_cccd,
-        0x3e80_0000, 0x4040_0000,
+        0x0000_0000, 0x8000_0000, 0x0000_0001, 0x8000_0001, 0x007f_ffff, 0x0080_0000, 0x807f_ffff, 0x8080_0000, 0x3f80_0000,
+        0xbf80_0000, 0x7f80_0000, 0xff80_0000, 0x7fc0_0000, 0xffc0_0000, 0x7f80_0001, 0x7f7f_ffff, 0xff7f_ffff, 0x4335_0000,
+        0x4336_0000, 0x3dcc_cccd, 0x3e80_0000, 0x4040_0000,
     ];
     match random.up_to(9) {
         0 | 1 => random.pick(&SPECIAL),
@@ -257,8 +257,8 @@ fn mend_length(frame: &mut [u8]) {
 }
 
 const EXTREME: [u32; 16] = [
-    0, 1, 2, 7, 8, 0x7fff_ffff, 0x8000_0000, 0xffff_ffff, 0x0100_0000, 0x0100_0001, 0xff00_0000, 0xfeff_ffff, 0x7f80_0000, 0x8000_0001,
-    0x0001_0000, 0xffff_fffe,
+    0, 1, 2, 7, 8, 0x7fff_ffff, 0x8000_0000, 0xffff_ffff, 0x0100_0000, 0x0100_0001, 0xff00_0000, 0xfeff_ffff, 0x7f80_0000,
+    0x8000_0001, 0x0001_0000, 0xffff_fffe,
 ];
 
 fn extreme(random: &Random) -> u32 {

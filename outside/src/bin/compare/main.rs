@@ -63,7 +63,8 @@ fn run(tally: &mut Tally, seed: u64, (part, count, case): Part) {
 
 /// Every question that a call of the library can refuse by.
 const QUESTIONS: [u32; 33] = [
-    10, 11, 12, 13, 14, 15, 16, 17, 18, 20, 21, 22, 23, 24, 25, 30, 31, 32, 40, 41, 42, 43, 44, 45, 46, 50, 51, 60, 61, 62, 70, 71, 72,
+    10, 11, 12, 13, 14, 15, 16, 17, 18, 20, 21, 22, 23, 24, 25, 30, 31, 32, 40, 41, 42, 43, 44, 45, 46, 50, 51, 60, 61, 62, 70,
+    71, 72,
 ];
 
 fn main() -> ExitCode {
@@ -99,7 +100,10 @@ fn counts(counts: impl Iterator<Item = (impl Display, u64)>) -> String {
 
 /// What was met and what was not; a whole run is to meet all.
 fn report(tally: &Tally, is_whole: bool) -> ExitCode {
-    println!("{} frames, {} sequences of {} calls with {} evaluations", tally.frames, tally.sequences, tally.calls, tally.evaluations);
+    println!(
+        "{} frames, {} sequences of {} calls with {} evaluations",
+        tally.frames, tally.sequences, tally.calls, tally.evaluations
+    );
     println!("what jobs came to: {}", counts(tally.events.iter().map(|(&event, &count)| (event, count))));
     println!("refusals reached: {}", counts(tally.reached.iter().map(|(&number, &count)| (number, count))));
     let refusals = QUESTIONS.iter().filter(|number| !tally.reached.contains_key(number)).map(u32::to_string);

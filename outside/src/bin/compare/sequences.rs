@@ -147,7 +147,8 @@ impl Both {
 
 /// Cells that a caller might lend: zero at first, or left by a job before.
 fn lent(random: &Random, classes: usize, speeds: usize) -> Work {
-    let mut work = Work { classes: vec![ClassCell::default(); classes], speeds: vec![SpeedCell::default(); speeds], ..Work::default() };
+    let mut work =
+        Work { classes: vec![ClassCell::default(); classes], speeds: vec![SpeedCell::default(); speeds], ..Work::default() };
     if random.percent(50) {
         for cell in &mut work.classes {
             *cell = ClassCell { value: random.up_to(7) as u8, cap: random.up_to(7) as u8, floor: random.up_to(7) as u8 };
