@@ -51,4 +51,5 @@ runs_alike σ law s s' start start' cs cs' same =
     record {
       same_pair = λ e e'. greatest_unique σ b b' same (own j.sheets) (own j'.sheets) (run_settled σ law s start cs e) (run_settled σ law s' start' cs' e');
       never_apart = λ i e e'. run_impossible σ law s' start' cs' i e' (own j.sheets) (keeps_same σ b b' same (own j.sheets) (run_settled σ law s start cs e).keeping);
+      nor_apart = λ i e e'. run_impossible σ law s start cs i e (own j'.sheets) (keeps_same σ b' b (same_sym σ b b' same) (own j'.sheets) (run_settled σ law s' start' cs' e').keeping);
     }

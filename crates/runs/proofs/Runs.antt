@@ -1,5 +1,5 @@
 -- What holds after a sequence of calls, from the invariant.
-use Rattle.std.proofs.Common.{◌≡◌, ℕ, ◌<◌, ◌≤◌, ◌⊎◌, List, [], ◌∷◌, ◌++◌, Ok, true, sym, refl, ◌∙◌, subst, arith}
+use Rattle.std.proofs.Common.{◌≡◌, ℕ, ◌<◌, ◌≤◌, ◌⊎◌, List, [], ◌∷◌, ◌++◌, Ok, sym, refl, ◌∙◌, subst, arith}
 use Rattle.runs.specs.declared.stage.Make.{Make}
 use Rattle.runs.specs.declared.stage.Make.TheVariants.{Classes, Speeds}
 use Rattle.runs.specs.declared.stage.Stage.TheVariants.{Settled, Impossible}
@@ -13,13 +13,13 @@ use Rattle.runs.specs.Settings.{Setting, SettingLaw}
 use Rattle.runs.specs.Sheets.{Sheets, sheet}
 use Rattle.runs.specs.Jobs.{Job}
 use Rattle.runs.specs.Making.{Start, StartLaw, made}
-use Rattle.runs.specs.Calls.{called, answered, is_possible}
+use Rattle.runs.specs.Calls.{called, answered}
 use Rattle.runs.specs.Runs.{run, after}
 use Rattle.runs.specs.InForce.{Bounds, given, in_force}
 use Rattle.runs.specs.Keeping.{Pair, KeepsAll, Greatest, own, bounds_in}
 use Rattle.runs.specs.Law.{Ended, SameBounds, enough}
 use Rattle.runs.proofs.Cells.{rank_values, length-values}
-use Rattle.runs.proofs.Standing.{Standing, Stands, parts}
+use Rattle.runs.proofs.Standing.{Standing, Stands, Hopeless, Holding, standing_holds}
 use Rattle.runs.proofs.Making.{made_stands}
 use Rattle.runs.proofs.Calling.{run_stands}
 use Rattle.runs.proofs.Ending.{advance_ends, advance_spends}
@@ -60,16 +60,23 @@ module _ (σ : Setting) (law : SettingLaw σ) (s : Start) (start : StartLaw σ s
       let b : Bounds = in_force σ s cs in
       settled_greatest σ b j.sweep j.sheets (subst (λ t. Standing σ b t j.sweep j.sheets) e (stands cs))
 
-  pub run_impossible : (cs : List Call) (i : ℕ) → (after σ s cs).stage ≡ Impossible i → (P : Pair) → KeepsAll σ (in_force σ s cs) P → ⊥
-  run_impossible cs i e =
+  -- what holds of an impossible job
+  stuck : (cs : List Call) (i : ℕ) → (after σ s cs).stage ≡ Impossible i
+      → Hopeless σ (in_force σ s cs) × (i < σ.samples) × Holding σ (in_force σ s cs) (after σ s cs).sheets
+  stuck cs i e =
       let j : Job = after σ s cs in
       subst (λ t. Standing σ (in_force σ s cs) t j.sweep j.sheets) e (stands cs)
 
-  pub run_holds : (cs : List Call) → is_possible (after σ s cs).stage ≡ true → SameBounds σ (in_force σ s cs) (bounds_in (after σ s cs).sheets)
-  run_holds cs p m i h =
+  pub run_impossible : (cs : List Call) (i : ℕ) → (after σ s cs).stage ≡ Impossible i → (P : Pair) → KeepsAll σ (in_force σ s cs) P → ⊥
+  run_impossible cs i e = (stuck cs i e).0
+
+  pub run_found : (cs : List Call) (i : ℕ) → (after σ s cs).stage ≡ Impossible i → i < σ.samples
+  run_found cs i e = (stuck cs i e).1
+
+  pub run_holds : (cs : List Call) → SameBounds σ (in_force σ s cs) (bounds_in (after σ s cs).sheets)
+  run_holds cs =
       let j : Job = after σ s cs in
-      let c = (parts σ (in_force σ s cs) j.stage j.sweep j.sheets p (stands cs)).0.each m i h in
-      (sym c.cap_is, sym c.floor_is)
+      (standing_holds σ (in_force σ s cs) j.stage j.sweep j.sheets (stands cs)).bounds
 
   pub run_ends : (cs before : List Call) (k : ℕ) → cs ≡ before ++ (Advance k ∷ []) → enough σ (after σ s before).sheets ≤ k → Ended (after σ s cs).stage
   run_ends cs before k last h =

@@ -1,5 +1,5 @@
 -- The invariant: how the sheets and the stage of a job stand to the bounds in force.
-use Rattle.std.proofs.Common.{◌≡◌, ℕ, ◌+◌, ◌<◌, ◌≤◌, true, false, length}
+use Rattle.std.proofs.Common.{◌≡◌, ℕ, ◌+◌, ◌<◌, ◌≤◌, true, false, length, sym}
 use Rattle.std.proofs.lemmas.Bool.{false≢true}
 use Rattle.grade.specs.declared.cell.Cell.{Cell}
 use Rattle.runs.specs.declared.stage.Direction.{Direction}
@@ -16,7 +16,8 @@ use Rattle.runs.specs.Sheets.{Sheets, cell, sheet}
 use Rattle.runs.specs.Jobs.{Job}
 use Rattle.runs.specs.Calls.{is_possible}
 use Rattle.runs.specs.InForce.{Bounds}
-use Rattle.runs.specs.Keeping.{Pair, KeepsAll, own}
+use Rattle.runs.specs.Keeping.{Pair, KeepsAll, own, bounds_in}
+use Rattle.runs.specs.Law.{SameBounds}
 
 -- a cell holds the bounds in force, its value lies between them, and no pair that keeps all is above it
 pub record Fits (σ : Setting) (b : Bounds) (m : Make) (k : ℕ) (c : Cell ℕ) : Type 0 where
@@ -30,6 +31,14 @@ pub record Fits (σ : Setting) (b : Bounds) (m : Make) (k : ℕ) (c : Cell ℕ) 
 pub record Fitting (σ : Setting) (b : Bounds) (S : Sheets) : Type 0 where
   pub long : (m : Make) → length (sheet S m) ≡ σ.samples
   pub each : (m : Make) (k : ℕ) → k < σ.samples → Fits σ b m k (cell (sheet S m) k)
+
+-- the cells hold the bounds in force
+pub record Holding (σ : Setting) (b : Bounds) (S : Sheets) : Type 0 where
+  pub long : (m : Make) → length (sheet S m) ≡ σ.samples
+  pub bounds : SameBounds σ b (bounds_in S)
+
+pub fitting_holds : (σ : Setting) (b : Bounds) (S : Sheets) → Fitting σ b S → Holding σ b S
+fitting_holds σ b S f = record { long = f.long; bounds = λ m k h. (sym (f.each m k h).cap_is, sym (f.each m k h).floor_is) }
 
 abbrev pub Hopeless : Setting → Bounds → Type 0
 Hopeless σ b = (P : Pair) → KeepsAll σ b P → ⊥
@@ -66,7 +75,7 @@ Reached σ (Impossible i) w P = Unit {0}
 abbrev pub Standing : Setting → Bounds → Stage → Sweep → Sheets → Type 0
 Standing σ b (Working m) w S = Fitting σ b S × Reached σ (Working m) w (own S)
 Standing σ b Settled w S = Fitting σ b S × Reached σ Settled w (own S)
-Standing σ b (Impossible i) w S = Hopeless σ b
+Standing σ b (Impossible i) w S = Hopeless σ b × (i < σ.samples) × Holding σ b S
 
 abbrev pub Stands : Setting → Bounds → Job → Type 0
 Stands σ b j = Standing σ b j.stage j.sweep j.sheets
@@ -82,3 +91,8 @@ module _ (σ : Setting) (b : Bounds) where
   whole (Working m) w S p f r = (f, r)
   whole Settled w S p f r = (f, r)
   whole (Impossible i) w S p f r = absurd (false≢true p)
+
+  pub standing_holds : (t : Stage) (w : Sweep) (S : Sheets) → Standing σ b t w S → Holding σ b S
+  standing_holds (Working m) w S s = fitting_holds σ b S s.0
+  standing_holds Settled w S s = fitting_holds σ b S s.0
+  standing_holds (Impossible i) w S (_, _, h) = h

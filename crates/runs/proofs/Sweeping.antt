@@ -18,7 +18,7 @@ use Rattle.runs.specs.InForce.{Bounds}
 use Rattle.runs.specs.Keeping.{Pair, KeepsAll, own}
 use Rattle.runs.proofs.Findings.{found_cases}
 use Rattle.runs.proofs.Cells.{rank_values, set_all}
-use Rattle.runs.proofs.Standing.{Fitting, Hopeless, Limited, Ready, Swept, Standing, Stands}
+use Rattle.runs.proofs.Standing.{Fitting, fitting_holds, Hopeless, Limited, Ready, Swept, Standing, Stands}
 use Rattle.runs.proofs.Lowering.{lowered_fits, under_number, ready_lowered}
 use Rattle.runs.proofs.Visits.{upcoming_below, visited_more, visited_none, visited_all, begun_swept, marked_swept}
 
@@ -37,7 +37,7 @@ module _ (σ : Setting) (law : SettingLaw σ) (b : Bounds) where
   poured_stands zero i S e f lim tab =
       (f, ((lim, λ x h. simp rank_values (tab x (omega arith))), law.sampled, begun_swept σ Speeds Rising (own S)))
   poured_stands (suc k) i S e f lim tab =
-      cond_both (ltb entry c.floor) (job (Impossible i) fresh S) (poured σ.table k (suc i) S') (Stands σ b) stops
+      cond_both (ltb entry c.floor) (job (Impossible i) fresh S) (poured σ.table k (suc i) S') (Stands σ b) (λ t. (stops t, h, fitting_holds σ b S f))
       (λ t. poured_stands k (suc i) S' (omega arith) (fits t) lim tabled)
     where
       c : Cell ℕ
@@ -87,7 +87,7 @@ module _ (σ : Setting) (law : SettingLaw σ) (b : Bounds) where
   pub evaluated_stands : (m : Make) (w : Sweep) (S : Sheets) → Standing σ b (Working m) w S → Stands σ b (evaluated σ m w S)
   unfolding evaluated finding followed
   evaluated_stands m w S (f, (ready, below, swept)) =
-      found_cases c z (λ o. Stands σ b (followed σ m i o w S)) clash lower keep
+      found_cases c z (λ o. Stands σ b (followed σ m i o w S)) (λ l. (clash l, h, fitting_holds σ b S f)) lower keep
     where
       i : ℕ
       i = upcoming σ.samples w

@@ -1,5 +1,5 @@
 -- The law of the job: what is true after every sequence of calls, said of the start and the calls alone.
-use Rattle.std.specs.Prelude.{◌≡◌, ℕ, ◌+◌, ◌*◌, ◌<◌, ◌≤◌, ◌⊎◌, List, [], ◌∷◌, ◌++◌, sum, ◌≢◌, true, Ok}
+use Rattle.std.specs.Prelude.{◌≡◌, ℕ, ◌+◌, ◌*◌, ◌<◌, ◌≤◌, ◌⊎◌, List, [], ◌∷◌, ◌++◌, sum, ◌≢◌, Ok}
 use Rattle.runs.specs.declared.stage.Make.{Make}
 use Rattle.runs.specs.declared.stage.Make.TheVariants.{Classes, Speeds}
 use Rattle.runs.specs.declared.stage.Stage.{Stage}
@@ -13,7 +13,7 @@ use Rattle.runs.specs.Settings.{Setting, SettingLaw}
 use Rattle.runs.specs.Sheets.{Sheets}
 use Rattle.runs.specs.Jobs.{Job}
 use Rattle.runs.specs.Making.{Start, StartLaw}
-use Rattle.runs.specs.Calls.{answered, is_possible}
+use Rattle.runs.specs.Calls.{answered}
 use Rattle.runs.specs.Runs.{after}
 use Rattle.runs.specs.InForce.{Bounds, in_force}
 use Rattle.runs.specs.Keeping.{Pair, KeepsAll, Greatest, own, bounds_in}
@@ -30,10 +30,11 @@ enough σ S = σ.samples * (sum (own S Classes) + sum (own S Speeds) + 3)
 abbrev pub SameBounds : Setting → Bounds → Bounds → Type 0
 SameBounds σ b b' = (m : Make) (i : ℕ) → i < σ.samples → (b.cap m i ≡ b'.cap m i) × (b.floor m i ≡ b'.floor m i)
 
--- two jobs do not end apart: settled both have one pair, and settled beside impossible does not happen
+-- two jobs do not end apart: settled both have one pair, and settled beside impossible does not happen, either way
 pub record AlikeLaw (j j' : Job) : Type 0 where
   pub same_pair : j.stage ≡ Settled → j'.stage ≡ Settled → own j.sheets ≡ own j'.sheets
   pub never_apart : (i : ℕ) → j.stage ≡ Settled → j'.stage ≢ Impossible i
+  pub nor_apart : (i : ℕ) → j.stage ≡ Impossible i → j'.stage ≢ Settled
 
 -- the job j, after the calls cs on a job newly made from the start s
 pub record RunLaw (σ : Setting) (s : Start) (cs : List Call) (j : Job) : Type 0 where
@@ -41,8 +42,10 @@ pub record RunLaw (σ : Setting) (s : Start) (cs : List Call) (j : Job) : Type 0
   pub settled : j.stage ≡ Settled → Greatest σ (in_force σ s cs) (own j.sheets)
   -- impossible: no pair keeps everything in force
   pub impossible : (i : ℕ) → j.stage ≡ Impossible i → (P : Pair) → KeepsAll σ (in_force σ s cs) P → ⊥
-  -- as long as it is not impossible, the caps and floors in its cells are those in force
-  pub holds : is_possible j.stage ≡ true → SameBounds σ (in_force σ s cs) (bounds_in j.sheets)
+  -- and that was found at a sample of the path
+  pub found : (i : ℕ) → j.stage ≡ Impossible i → i < σ.samples
+  -- the caps and floors in its cells are those in force, at every stage
+  pub holds : SameBounds σ (in_force σ s cs) (bounds_in j.sheets)
   -- so a settled job's own pair is the greatest under the caps and floors of its cells too
   pub held : j.stage ≡ Settled → Greatest σ (bounds_in j.sheets) (own j.sheets)
   -- a last advance whose allowance was enough, by the sums where it began, has ended the work
