@@ -1,0 +1,19 @@
+// The library as C calls it: each function is a call of the library's, over memory that C lends, and states its clauses again.
+#![tactic(auto)]
+
+mod advancing;
+mod allowing;
+mod answer_words;
+mod call_words;
+mod capping;
+mod cells;
+mod checking;
+mod job_words;
+mod lending;
+mod making;
+mod naming;
+mod performing;
+mod refusal_words;
+mod rewriting;
+mod running;
+mod sending;
