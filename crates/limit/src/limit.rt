@@ -1,9 +1,11 @@
 // What a limit is: of a profile and a sample it gives a grade, or says that nothing fits.
-ghost use Rattle.std.specs.Prelude.{◌≡◌, ℕ, ◌≤◌, length, ℤ, pos, negsuc, ◌≤ℤ◌};
+ghost use Rattle.std.specs.Prelude.{◌≡◌, ℕ, ◌+◌, ◌<◌, ◌≤◌, length, ℤ, pos, negsuc, ◌≤ℤ◌};
+ghost use Rattle.std.specs.Int.{int_min};
 ghost use Rattle.grade.specs.Profiles.{Profile, Within};
 ghost use Rattle.grade.specs.Ranks.{ranks};
 ghost use Rattle.limit.specs.Numbers.{Number, number_of, Rule, LimitLaw};
 
+use super::allowed::{Allowed, lesser};
 use grade::{Cell, Grade};
 
 pub trait Limit<G: Grade> {
@@ -12,6 +14,19 @@ pub trait Limit<G: Grade> {
 
     fn evaluate(&self, cells: &[Cell<G>], at: usize) -> Option<G>
         ensures { number_of G.Grade.rank result ≡ number self.now (ranks G.Grade.rank cells.now) at };
+
+    // The same of a sample between two others, as far as a grade: the lesser of the two. `near` is where the limit found what
+    // bounds the sample before this one, so that it need not search; the answer is the same wherever that is.
+    fn within(&self, cells: &[Cell<G>], at: usize, most: G, near: usize) -> Allowed<G>
+        requires after_first { 1 ≤ at }
+        requires before_last { at + 1 < length cells.now }
+        ensures { number_of G.Grade.rank result.grade ≡ int_min (pos (G.Grade.rank most)) (number self.now (ranks G.Grade.rank cells.now) at) }
+    {
+        Allowed {
+            grade: lesser(most, self.evaluate(cells, at)),
+            near,
+        }
+    }
 
     // The laws ask only of profiles whose ranks are within the top.
     ghost low: { (l : Self) (p : Profile) (i : ℕ) → Within G.Grade.top p → negsuc 0 ≤ℤ number l p i };

@@ -6,6 +6,7 @@ ghost use Rattle.limit.specs.Numbers.{both, Allows, Keeps, Greatest};
 ghost use Rattle.limit.specs.NumbersLemmas.{min_mono};
 ghost use Rattle.std.proofs.Common.{rules};
 
+use super::allowed::Allowed;
 use super::limit::Limit;
 use grade::{Cell, Grade, lower};
 
@@ -30,6 +31,14 @@ impl<G: Grade, A: Limit<G>, B: Limit<G>> Limit<G> for Pair<A, B> {
         let first = self.first.evaluate(cells, at)?;
         let second = self.second.evaluate(cells, at)?;
         Some(lower(first, second))
+    }
+
+    fn within(&self, cells: &[Cell<G>], at: usize, most: G, near: usize) -> Allowed<G> {
+        let first = self.first.within(cells, at, most, near);
+        match first.grade {
+            Some(grade) => self.second.within(cells, at, grade, first.near),
+            None => first,
+        }
     }
 }
 
