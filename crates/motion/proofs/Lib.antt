@@ -1,3 +1,4 @@
 pub mod Rates
+pub mod Flooring
 pub mod Scanning
 pub mod SpeedLimits

@@ -31,6 +31,9 @@ module _ {h : ℕ} {rows : List Row} (sound : SoundRows h rows) (p : Profile) (i
   abbrev pub rest : ℕ → ℤ
   rest k = least (allows h p i) (drop k rows)
 
+  pub rest_here : (k : ℕ) → k ≤ length rows → ((j : ℕ) → j < k → (row_at rows j).gap + 1 < i) → rest k ≡ torque h rows p i
+  rest_here k l before = least_past (allows h p i) k rows (λ j m. let n = before j m in elsewhere h p i (row_at rows j) (omega arith) (omega arith)) l
+
   pub rest_first : (k b : ℕ) → k ≤ length rows → ((j : ℕ) → j < k → (row_at rows j).gap + 1 < i) → b ≡ speed_top → int_min (pos b) (rest k) ≡ torque h rows p i
   rest_first k b l before e =
       let a = least_past (allows h p i) k rows (λ j m. let n = before j m in elsewhere h p i (row_at rows j) (omega arith) (omega arith)) l in
@@ -51,8 +54,15 @@ module _ {h : ℕ} {rows : List Row} (sound : SoundRows h rows) (p : Profile) (i
     pub rest_nothing : (b : ℕ) → int_min (pos b) (rest k) ≡ torque h rows p i → negsuc 0 ≡ allows s p i r → negsuc 0 ≡ torque h rows p i
     rest_nothing b inv e = let o = one_more in let w = least_low (allows h p i) (allows_low h p i) (drop (k + 1) rows) in omega (arith, ints, clamps)
 
+    -- the same with a number z in place of the whole, of which a row's answer is taken as far as the least so far
+    pub rest_within : (b c : ℕ) (z : ℤ) → int_min (pos b) (rest k) ≡ z → pos c ≡ int_min (pos b) (allows s p i r) → int_min (pos c) (rest (k + 1)) ≡ z
+    rest_within b c z inv e = let o = one_more in omega (arith, ints, clamps)
+
+    pub rest_none_within : (b : ℕ) (z : ℤ) → int_min (pos b) (rest k) ≡ z → negsuc 0 ≡ int_min (pos b) (allows s p i r) → negsuc 0 ≡ z
+    rest_none_within b z inv e = let o = one_more in let w = least_low (allows h p i) (allows_low h p i) (drop (k + 1) rows) in omega (arith, ints, clamps)
+
     -- from k on the gaps lie past the sample
-    pub rest_past : (b : ℕ) → int_min (pos b) (rest k) ≡ torque h rows p i → b ≤ speed_top → i < r.gap → pos b ≡ torque h rows p i
+    pub rest_past : (b : ℕ) {z : ℤ} → int_min (pos b) (rest k) ≡ z → b ≤ speed_top → i < r.gap → pos b ≡ z
     rest_past b inv m past =
         let here : i < (row_at rows k).gap = rw read at past in
         let none : rest k ≡ pos speed_top = least_none (allows h p i) (drop k rows) (λ j n.

@@ -7,11 +7,11 @@ ghost use Rattle.motion.specs.Averages.{average, WithinAverage, WithinAverageAt}
 ghost use Rattle.motion.specs.AveragesLemmas.{average_low, average_high, average_outside, average_mono};
 ghost use Rattle.grade.proofs.Ranking.{at_most_everywhere};
 
-use super::floor::floor_bound;
+use super::floor::{floor_bound, floor_within};
 use super::offsets::Offsets;
 use super::reading::{samples, unbounded, value};
 use grade::{Cell, Grade, Speed};
-use limit::Limit;
+use limit::{Allowed, Limit};
 
 #[derive(Debug, PartialEq, Eq, Drop)]
 pub struct Average<Q> {
@@ -40,6 +40,18 @@ impl<Q: Offsets> Limit<Speed> for Average<Q> {
         } else {
             Some(unbounded())
         }
+    }
+
+    #[inline(always)]
+    fn within(&self, cells: &[Cell<Speed>], at: usize, most: Speed, near: usize) -> Allowed<Speed> {
+        let grade = if at < self.offsets.len() {
+            let before = value(cells, at - 1);
+            let sum = sum(before, value(cells, at + 1), self.offsets.offset(at));
+            floor_within(TWICE, sum, most)
+        } else {
+            Some(most)
+        };
+        Allowed { grade, near }
     }
 }
 

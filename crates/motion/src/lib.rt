@@ -4,6 +4,7 @@
 mod average;
 mod floor;
 mod offsets;
+mod raising;
 mod ramp;
 mod rate;
 mod reading;

@@ -6,10 +6,11 @@ ghost use Rattle.motion.specs.Ramps.{before_allows, after, ramp, WithinSteps, Wi
 ghost use Rattle.motion.specs.RampsLemmas.{ramp_low, ramp_high, ramp_outside, ramp_mono};
 ghost use Rattle.grade.proofs.Ranking.{at_most_everywhere};
 
+use super::raising::raised_within;
 use super::reading::{samples, unbounded, value};
 use super::steps::Steps;
 use grade::{Cell, Raisable, lower};
-use limit::Limit;
+use limit::{Allowed, Limit};
 
 #[derive(Debug, PartialEq, Eq, Drop)]
 pub struct Ramp<S> {
@@ -31,6 +32,21 @@ impl<G: Raisable, S: Steps> Limit<G> for Ramp<S> {
         let risen = ramp_before(self, cells, at);
         let fallen = ramp_after(self, cells, at);
         Some(lower(risen, fallen))
+    }
+
+    #[inline(always)]
+    fn within(&self, cells: &[Cell<G>], at: usize, most: G, near: usize) -> Allowed<G> {
+        let grade = if at < self.steps.len() {
+            let up = self.steps.step(at - 1).up;
+            let risen = raised_within(value(cells, at - 1), up, most);
+            raised_within(value(cells, at + 1), self.steps.step(at).down, risen)
+        } else {
+            lower(most, ramp_before(self, cells, at))
+        };
+        Allowed {
+            grade: Some(grade),
+            near,
+        }
     }
 }
 

@@ -16,11 +16,32 @@ pub(crate) struct SpacedRow {
 }
 
 impl SpacedRow {
-    ghost use Rattle.std.specs.Prelude.{◌≡◌, unsigned_abs};
+    ghost use Rattle.std.specs.Prelude.{◌≡◌, ◌+◌, ◌<◌, ◌≤◌, length, pos, unsigned_abs};
+    ghost use Rattle.std.specs.Int.{int_min};
     ghost use Rattle.grade.specs.Ranks.{ranks, speed_rank};
     ghost use Rattle.limit.specs.Numbers.{number_of};
     ghost use Rattle.torque.specs.Rows.{weight};
-    ghost use Rattle.motion.specs.Torques.{on_right_of, on_left_of, bound, allows_after, allows_before, allows};
+    ghost use Rattle.motion.specs.Torques.{Fit, on_right_of, on_left_of, bound, allows_after, allows_before, allows};
+
+    // What the row allows a sample between two others, as far as a grade.
+    pub(crate) fn allows_within(
+        self,
+        cells: &[Cell<Speed>],
+        at: usize,
+        most: Speed,
+    ) -> Option<Speed>
+        requires after_first { 1 ≤ at }
+        requires before_last { at + 1 < length cells.now }
+        ensures { number_of speed_rank result ≡ int_min (pos (speed_rank most)) (allows self.h (ranks speed_rank cells.now) at self.row) }
+    {
+        if self.row.gap as usize + 1 == at {
+            self.on_right().bound_within(value(cells, at - 1), most)
+        } else if self.row.gap as usize == at {
+            self.on_left().bound_within(value(cells, at + 1), most)
+        } else {
+            Some(most)
+        }
+    }
 
     // What the row allows at a sample.
     pub(crate) fn allows(self, cells: &[Cell<Speed>], at: usize) -> Option<Speed>
@@ -55,8 +76,16 @@ impl SpacedRow {
     fn bound_on_right(self, before: Speed) -> Option<Speed>
         ensures { number_of speed_rank result ≡ bound (on_right_of self.h self.row) (speed_rank before) }
     {
+        self.on_right().bound(before)
+    }
+
+    // The inequality that bounds the sample after the gap.
+    fn on_right(self) -> Triple
+        ensures is { result ≡ on_right_of self.h self.row }
+        ensures fits { Fit result }
+    {
         let row = self.row;
-        let inequality = Triple {
+        Triple {
             own: row.d.unsigned_abs(),
             near: self.weight_size(),
             constant: if row.d < 0 {
@@ -64,16 +93,23 @@ impl SpacedRow {
             } else {
                 row.room_above(self.h)
             },
-        };
-        inequality.bound(before)
+        }
     }
 
     // What the sample before the gap may at most be beside the one after it.
     fn bound_on_left(self, after: Speed) -> Option<Speed>
         ensures { number_of speed_rank result ≡ bound (on_left_of self.h self.row) (speed_rank after) }
     {
+        self.on_left().bound(after)
+    }
+
+    // The inequality that bounds the sample before the gap.
+    fn on_left(self) -> Triple
+        ensures is { result ≡ on_left_of self.h self.row }
+        ensures fits { Fit result }
+    {
         let row = self.row;
-        let inequality = Triple {
+        Triple {
             own: self.weight_size(),
             near: row.d.unsigned_abs(),
             constant: if row.d < 0 {
@@ -81,8 +117,7 @@ impl SpacedRow {
             } else {
                 row.room_below(self.h)
             },
-        };
-        inequality.bound(after)
+        }
     }
 
     // The size of d − 2hc.

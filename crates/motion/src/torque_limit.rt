@@ -1,6 +1,7 @@
 // What rows of torque allow. Rows lie by gap, so that a sample asks only those of the gaps beside it, which a search by
 // halves finds.
-ghost use Rattle.std.specs.Prelude.{◌≡◌, ℕ, ◌+◌, ◌<◌, ◌≤◌, length};
+ghost use Rattle.std.specs.Prelude.{◌≡◌, ℕ, ◌+◌, ◌<◌, ◌≤◌, length, pos};
+ghost use Rattle.std.specs.Int.{int_min};
 ghost use Rattle.grade.specs.Ranks.{ranks, speed_rank};
 ghost use Rattle.grade.specs.Tops.{speed_top};
 ghost use Rattle.limit.specs.Numbers.{number_of, KeptExactly, Greatest};
@@ -14,7 +15,7 @@ use super::reading::unbounded;
 use super::rows::Rows;
 use super::spaced_row::SpacedRow;
 use grade::{Cell, Speed, lower};
-use limit::Limit;
+use limit::{Allowed, Limit};
 
 #[derive(Debug, PartialEq, Eq, Drop)]
 pub struct Torque<R> {
@@ -46,6 +47,49 @@ impl<R: Rows> Limit<Speed> for Torque<R> {
         }
         Some(least)
     }
+
+    #[inline(always)]
+    fn within(&self, cells: &[Cell<Speed>], at: usize, most: Speed, near: usize) -> Allowed<Speed> {
+        if self.rows.len() == 0 {
+            return Allowed {
+                grade: Some(most),
+                near,
+            };
+        }
+        let near = first_row_near(&self.rows, at, near);
+        Allowed {
+            grade: rows_within(&self.rows, near, cells, at, most),
+            near,
+        }
+    }
+}
+
+// What the rows from the first that bears on a sample between two others allow it, as far as a grade.
+fn rows_within<R: Rows>(
+    rows: &R,
+    first: usize,
+    cells: &[Cell<Speed>],
+    at: usize,
+    most: Speed,
+) -> Option<Speed>
+    requires after_first { 1 ≤ at }
+    requires before_last { at + 1 < length cells.now }
+    requires rows { first ≤ length (R.Rows.rows rows.now) }
+    requires before { (k : ℕ) → k < first → (row_at (R.Rows.rows rows.now) k).gap + 1 < at }
+    ensures { number_of speed_rank result ≡ int_min (pos (speed_rank most)) (torque (R.Rows.spacing rows.now) (R.Rows.rows rows.now) (ranks speed_rank cells.now) at) }
+{
+    let h = rows.spacing();
+    let mut least = most;
+    for k in first..rows.len() {
+        let row = rows.row(k);
+        let gap = row.gap as usize;
+        if gap > at {
+            return Some(least);
+        }
+        let spaced = SpacedRow { h, row };
+        least = spaced.allows_within(cells, at, least)?;
+    }
+    Some(least)
 }
 
 // What one row allows, by its number; the top where there is no such row.
@@ -87,6 +131,21 @@ fn first_row<R: Rows>(rows: &R, at: usize) -> usize
         }
     }
     low
+}
+
+// The same row, looked for from a place near it.
+fn first_row_near<R: Rows>(rows: &R, at: usize, near: usize) -> usize
+    ensures within { result ≤ length (R.Rows.rows rows.now) }
+    ensures before { (k : ℕ) → k < result → (row_at (R.Rows.rows rows.now) k).gap + 1 < at }
+{
+    let mut first = near.min(rows.len());
+    while first > 0 && rows.row(first - 1).gap as usize + 1 >= at {
+        first -= 1;
+    }
+    while first < rows.len() && (rows.row(first).gap as usize) + 1 < at {
+        first += 1;
+    }
+    first
 }
 
 // Each limit has its own two functions, no generic ones: their contracts state its inequality in its own words.
