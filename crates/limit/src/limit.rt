@@ -15,6 +15,11 @@ pub trait Limit<G: Grade> {
     fn evaluate(&self, cells: &[Cell<G>], at: usize) -> Option<G>
         ensures { number_of G.Grade.rank result ≡ number self.now (ranks G.Grade.rank cells.now) at };
 
+    // Where the limit finds what bounds a sample, if it has to search for that.
+    fn place(&self, _at: usize) -> usize {
+        0
+    }
+
     // The same of a sample between two others, as far as a grade: the lesser of the two. `near` is where the limit found what
     // bounds the sample before this one, so that it need not search; the answer is the same wherever that is.
     fn within(&self, cells: &[Cell<G>], at: usize, most: G, near: usize) -> Allowed<G>

@@ -33,6 +33,11 @@ impl<G: Grade, A: Limit<G>, B: Limit<G>> Limit<G> for Pair<A, B> {
         Some(lower(first, second))
     }
 
+    // Of two limits that search, the place of one: either is as good a guess.
+    fn place(&self, at: usize) -> usize {
+        self.first.place(at).max(self.second.place(at))
+    }
+
     fn within(&self, cells: &[Cell<G>], at: usize, most: G, near: usize) -> Allowed<G> {
         let first = self.first.within(cells, at, most, near);
         match first.grade {

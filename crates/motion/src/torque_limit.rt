@@ -48,6 +48,10 @@ impl<R: Rows> Limit<Speed> for Torque<R> {
         Some(least)
     }
 
+    fn place(&self, at: usize) -> usize {
+        first_row(&self.rows, at)
+    }
+
     #[inline(always)]
     fn within(&self, cells: &[Cell<Speed>], at: usize, most: Speed, near: usize) -> Allowed<Speed> {
         if self.rows.len() == 0 {

@@ -3,6 +3,7 @@
 
 mod beginning;
 mod changing;
+mod running;
 mod step;
 mod stepping;
 mod sweeping;
@@ -11,6 +12,7 @@ mod visiting;
 
 pub use beginning::{begin, check};
 pub use changing::{Cutting, Lifting, cut_cell, lift_cell};
+pub use running::{Run, sweep_on};
 pub use step::Step;
 pub use stepping::sweep_step;
 pub use sweeping::{FRESH, Outcome};

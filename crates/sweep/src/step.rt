@@ -18,9 +18,16 @@ impl Step {
     pub fn lowerings(&self) -> u64
         ensures { result ≡ lowering self.now.finding }
     {
-        match self.finding {
-            Finding::Lowers(_) => 1,
-            Finding::Keeps | Finding::Clashes => 0,
-        }
+        lowering_of(self.finding)
+    }
+}
+
+// How many values a finding lowers, one or none.
+pub(crate) fn lowering_of(finding: Finding) -> u64
+    ensures { result ≡ lowering finding }
+{
+    match finding {
+        Finding::Lowers(_) => 1,
+        Finding::Keeps | Finding::Clashes => 0,
     }
 }

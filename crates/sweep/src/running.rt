@@ -1,0 +1,128 @@
+// A run: visits within a sweep to samples between two others, as long as each finds room. It ends before the sweep does, and
+// before a visit that would find no room, so that a step takes it up from there.
+ghost use Rattle.std.specs.Prelude.{◌≡◌, ◌+◌, ◌-◌, ◌<◌, ◌≤◌, length};
+ghost use Rattle.sweep.specs.Passes.{Passes, finds_room, gone};
+
+use super::step::lowering_of;
+use super::sweeping::Pass;
+use super::visiting::visit_between;
+use grade::{Cell, Grade};
+use limit::Limit;
+use runs::{Direction, Finding, Sweep};
+
+#[derive(Clone, Copy, Debug, PartialEq, Eq)]
+pub struct Run {
+    // The sweep after it.
+    pub sweep: Sweep,
+    // How many values it lowered.
+    pub lowerings: u64,
+}
+
+// Visits at most so many samples. The two ways apart, each with its direction written out: a compiler makes of each a loop
+// of its own.
+pub fn sweep_on<G: Grade, L: Limit<G>>(
+    cells: &mut [Cell<G>],
+    limit: &L,
+    sweep: Sweep,
+    most: usize,
+) -> Run
+    requires { sweep.visited < length cells.old }
+    ensures goes { result.sweep.visited < length cells.old }
+    ensures within { (sweep.visited ≤ result.sweep.visited) × (result.sweep.visited ≤ sweep.visited + most) }
+    ensures fewer { sweep.visited + result.lowerings ≤ result.sweep.visited }
+    ensures passes { Passes G.Grade.rank (L.Limit.number limit.now) sweep result.sweep cells.old cells.new (result.sweep.visited - sweep.visited) result.lowerings }
+{
+    let visited = sweep.visited;
+    if visited == 0 {
+        return Run {
+            sweep,
+            lowerings: 0,
+        };
+    }
+    let end = (cells.len() - 1).min(visited.saturating_add(most));
+    let marked = sweep.marked;
+    match sweep.direction {
+        Direction::Rising => {
+            let direction = Direction::Rising;
+            let sweep = Sweep {
+                direction,
+                visited,
+                marked,
+            };
+            run_to(cells, limit, sweep, end)
+        }
+        Direction::Falling => {
+            let direction = Direction::Falling;
+            let sweep = Sweep {
+                direction,
+                visited,
+                marked,
+            };
+            run_to(cells, limit, sweep, end)
+        }
+    }
+}
+
+// Visits samples until so many are visited in all.
+#[inline(always)]
+fn run_to<G: Grade, L: Limit<G>>(cells: &mut [Cell<G>], limit: &L, sweep: Sweep, end: usize) -> Run
+    requires begun { 1 ≤ sweep.visited }
+    requires ahead { sweep.visited ≤ end }
+    requires short { end < length cells.old }
+    ensures within { (sweep.visited ≤ result.sweep.visited) × (result.sweep.visited ≤ end) }
+    ensures fewer { sweep.visited + result.lowerings ≤ result.sweep.visited }
+    ensures passes { Passes G.Grade.rank (L.Limit.number limit.now) sweep result.sweep cells.old cells.new (result.sweep.visited - sweep.visited) result.lowerings }
+{
+    let samples = cells.len();
+    let mut passed = sweep;
+    let mut lowerings = 0;
+    let mut near = limit.place(Pass { sweep, samples }.next_sample());
+    for visited in sweep.visited..end {
+        let at = Pass {
+            sweep: passed,
+            samples,
+        }
+        .next_sample();
+        let found = visit_between(cells, limit, at, near);
+        if !finds_room(found.finding) {
+            return Run {
+                sweep: passed,
+                lowerings,
+            };
+        }
+        lowerings += lowering_of(found.finding);
+        passed = onward(passed, found.finding);
+        near = found.near;
+    }
+    Run {
+        sweep: passed,
+        lowerings,
+    }
+}
+
+// Does a finding leave the value room?
+fn finds_room(finding: Finding) -> bool
+    ensures { result ≡ finds_room finding }
+{
+    match finding {
+        Finding::Keeps | Finding::Lowers(_) => true,
+        Finding::Clashes => false,
+    }
+}
+
+// The sweep one visit later.
+fn onward(sweep: Sweep, finding: Finding) -> Sweep
+    requires { sweep.visited < u64.MAX }
+    ensures { result ≡ gone finding sweep }
+{
+    let lowered = match finding {
+        Finding::Keeps => false,
+        Finding::Lowers(_) => true,
+        Finding::Clashes => return sweep,
+    };
+    Sweep {
+        direction: sweep.direction,
+        visited: sweep.visited + 1,
+        marked: lowered || sweep.marked,
+    }
+}
