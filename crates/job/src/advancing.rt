@@ -20,7 +20,8 @@ impl Job {
         matches!(self.stage, Stage::Working(_))
     }
 
-    // Steps until the allowance is used or the work ends.
+    // Evaluations until the allowance is used or the work ends: those that leave nothing to decide in a loop of their own, each
+    // other one as a step.
     fn work<C: Limit<Class>, S: Limit<Speed>>(
         &mut self,
         classes: &mut [Cell<Class>],
@@ -32,20 +33,17 @@ impl Job {
         ensures samples { self.new.samples ≡ self.old.samples }
         ensures came { let came = advanced (setting self.old.samples.count (C.Limit.number limits.now.classes.now) (S.Limit.number limits.now.speeds.now)) allowance (whole self.old classes.old speeds.old) in (whole self.new classes.new speeds.new ≡ came.job) × (result ≡ progress came) }
     {
+        let mut evaluations = 0;
         let mut lowerings = 0;
-        for evaluations in 0..allowance {
-            if !self.at_work() {
-                return Progress {
-                    stage: self.stage,
-                    evaluations,
-                    lowerings,
-                };
-            }
-            lowerings += self.step(classes, speeds, limits);
+        while evaluations < allowance && self.at_work() {
+            // One less than is left: a step follows.
+            let inner = self.go_on(classes, speeds, limits, allowance - evaluations - 1);
+            lowerings += inner.lowerings + self.step(classes, speeds, limits);
+            evaluations += inner.evaluations + 1;
         }
         Progress {
             stage: self.stage,
-            evaluations: allowance,
+            evaluations,
             lowerings,
         }
     }

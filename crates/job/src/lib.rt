@@ -6,6 +6,7 @@ mod allowing;
 mod asking;
 mod calling;
 mod changing;
+mod going_on;
 mod job;
 mod limits;
 mod looking;

@@ -14,9 +14,13 @@ use Rattle.job.proofs.job.Job.from_parts.Goals as goal
 
 -- a job's data, from its words
 abbrev data_of : Parts → Denots (rows the_type.parts)
-data_of p =
-    ((p.samples, tt), (intoss stage.the_parts (stage.as_values p.stage),
-    ((intoss direction.the_parts (direction.as_values p.sweep.direction), (p.sweep.visited, (p.sweep.marked, tt))), tt)))
+data_of p = (
+  (p.samples, tt),
+  (
+    intoss stage.the_parts (stage.as_values p.stage),
+    ((intoss direction.the_parts (direction.as_values p.sweep.direction), (p.sweep.visited, (p.sweep.marked, tt))), tt),
+  ),
+)
 
 one_job : (j j' : Job) → parts_of j ≡ parts_of j' → j ≡ j'
 one_job j j' e = the_type.to_one j j' (ap data_of e)
