@@ -54,12 +54,10 @@ module _ (n : ℕ) (s : Start) (a b : Number) (calls : List Call) (cs cs₁ cs�
       }
 
 -- limits that read the frame's own bytes are the path's
-module _ (bs : List ℕ) (calls : List Call) (cs cs' : List (Cell Class)) (ss ss' : List (Cell Speed)) (old new : List Answer) (r : Result Job MakeFault) where
-  pub own_limits : (u x y z : List ℕ) → u ≡ bs → x ≡ bs → y ≡ bs → z ≡ bs
-      → PlansFrom bs (class_number (path_of u)) (speed_limit_of (path_of x) (path_of y) (path_of z)) calls cs cs' ss ss' old new r
-      → PlansFrom bs (class_number (path_of bs)) (speed_number (path_of bs)) calls cs cs' ss ss' old new r
-  own_limits u x y z u-is x-is y-is z-is p =
-      subst (λ (w : List ℕ). PlansFrom bs (class_number (path_of bs)) (speed_limit_of (path_of bs) (path_of bs) (path_of w)) calls cs cs' ss ss' old new r) z-is
-      (subst (λ (w : List ℕ). PlansFrom bs (class_number (path_of bs)) (speed_limit_of (path_of bs) (path_of w) (path_of z)) calls cs cs' ss ss' old new r) y-is
-      (subst (λ (w : List ℕ). PlansFrom bs (class_number (path_of bs)) (speed_limit_of (path_of w) (path_of y) (path_of z)) calls cs cs' ss ss' old new r) x-is
-      (subst (λ (w : List ℕ). PlansFrom bs (class_number (path_of w)) (speed_limit_of (path_of x) (path_of y) (path_of z)) calls cs cs' ss ss' old new r) u-is p)))
+pub own_limits : (Q : Number → Number → Type 0) (bs u x y z : List ℕ) → u ≡ bs → x ≡ bs → y ≡ bs → z ≡ bs
+    → Q (class_number (path_of u)) (speed_limit_of (path_of x) (path_of y) (path_of z)) → Q (class_number (path_of bs)) (speed_number (path_of bs))
+own_limits Q bs u x y z u-is x-is y-is z-is q =
+    subst (λ (w : List ℕ). Q (class_number (path_of bs)) (speed_limit_of (path_of bs) (path_of bs) (path_of w))) z-is
+    (subst (λ (w : List ℕ). Q (class_number (path_of bs)) (speed_limit_of (path_of bs) (path_of w) (path_of z))) y-is
+    (subst (λ (w : List ℕ). Q (class_number (path_of bs)) (speed_limit_of (path_of w) (path_of y) (path_of z))) x-is
+    (subst (λ (w : List ℕ). Q (class_number (path_of w)) (speed_limit_of (path_of x) (path_of y) (path_of z))) u-is q)))

@@ -3,6 +3,7 @@
 #![tactic(auto)]
 
 mod asking;
+mod calling;
 mod cells;
 mod fault;
 mod filling;
@@ -11,6 +12,7 @@ mod place;
 mod planning;
 
 pub use asking::ask;
+pub use calling::call;
 pub use fault::MakeFault;
 pub use making::{make, make_or_refuse};
 pub use planning::{plan, plan_under};
