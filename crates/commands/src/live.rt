@@ -1,13 +1,15 @@
 // A job at hand, with the frame that it was made of and its memories; it owns them, and is never compared. Where its job is
 // released it is taken apart, since what is released borrows the memories.
-ghost use Rattle.std.specs.Prelude.{◌≡◌, take};
+ghost use Rattle.std.specs.Prelude.{◌≡◌, take, [], ◌∷◌};
+ghost use Rattle.frame.specs.Views.{path_of};
+ghost use Rattle.job.specs.Holding.{held};
+ghost use Rattle.job.specs.Calling.{Does, Lawful};
+ghost use Rattle.sources.specs.Sources.{class_number, speed_number};
 
 use frame::PathFrame;
 use grade::{Cell, Class, Speed};
-use job::{Job, Limits};
-use runs::{Answer, Call, Reply};
-use sequence::run;
-use sources::{class_limit, speed_limit};
+use job::Job;
+use runs::{Answer, Call};
 
 #[derive(Drop)]
 pub struct Live<'a> {
@@ -19,21 +21,17 @@ pub struct Live<'a> {
 
 impl Live<'_> {
     // One call, under the frame's own limits.
-    pub fn call(&mut self, call: Call) -> Answer {
-        let limits = Limits {
-            classes: &class_limit(self.frame),
-            speeds: &speed_limit(self.frame),
-        };
-        let mut answers = [Ok(Reply::Done)];
-        run(
+    pub fn call(&mut self, call: Call) -> Answer
+        ensures does { Does (class_number (path_of self.old.frame.bytes.now)) (speed_number (path_of self.old.frame.bytes.now)) call (held self.old.job self.old.classes.items self.old.speeds.items) (held self.new.job self.new.classes.items self.new.speeds.items) result }
+        ensures law { Lawful (class_number (path_of self.old.frame.bytes.now)) (speed_number (path_of self.old.frame.bytes.now)) (call ∷ []) (held self.old.job self.old.classes.items self.old.speeds.items) (held self.new.job self.new.classes.items self.new.speeds.items) }
+    {
+        planner::call(
+            self.frame,
             &mut self.job,
             self.classes.as_mut_slice(),
             self.speeds.as_mut_slice(),
-            &limits,
-            &[call],
-            &mut answers,
-        )?;
-        answers[0]
+            call,
+        )
     }
 
     // Of a memory of this job, the cells of the samples, or all where there are fewer.
