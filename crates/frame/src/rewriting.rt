@@ -1,7 +1,7 @@
 // A frame's bytes read and its records written again, in one call.
 ghost use Rattle.std.specs.Prelude.{◌≡◌};
 ghost use Rattle.frame.specs.declared.rewriting.RewriteFault.TheVariants.{Frame, Memory};
-ghost use Rattle.frame.specs.Rewrites.{Rewrites};
+ghost use Rattle.frame.specs.Rewrites.{Rewrites, rewrite_question};
 
 use super::fault::FrameFault;
 use super::reading::read;
@@ -35,6 +35,18 @@ impl From<WriteFault> for RewriteFault {
     fn from(fault: WriteFault) -> RewriteFault {
         match fault {
             WriteFault::Memory => RewriteFault::Memory,
+        }
+    }
+}
+
+impl RewriteFault {
+    /// The number of the question that said no: of a refused frame the reader's.
+    pub fn number(self) -> u8
+        ensures { result ≡ rewrite_question self }
+    {
+        match self {
+            RewriteFault::Frame(refused) => refused.refusal().number,
+            RewriteFault::Memory => WriteFault::Memory.number(),
         }
     }
 }

@@ -1,5 +1,5 @@
--- Profiles over ranks. A profile is a list of grades of one make, its samples numbered from 0; definitions read it as
--- the list of their ranks, so that each serves every make.
+-- Profiles over ranks. A profile gives each sample of a path, counted from 0, a grade of one make; definitions read it as the
+-- list of their ranks, so that each serves every make.
 use Rattle.std.specs.Prelude.{ℕ, ◌<◌, ◌≤◌, List, length, slice_index}
 
 abbrev pub Profile : Type 0

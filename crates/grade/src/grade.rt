@@ -27,8 +27,7 @@ pub trait Grade: Copy {
     ghost every: { (k : ℕ) → k ≤ top → (x : Self) × (rank x ≡ k) };
 }
 
-// A raisable grade also has a raise: raised by k, its rank is the smaller of its rank + k and the top. One text serves
-// every make.
+// A grade that can be raised: raising by k adds k to its rank and stops at the top. One text serves every make.
 pub trait Raisable: Grade {
     fn raise(self, by: u32) -> Self
         ensures { Self.rank result ≡ min (Self.rank self + by) Self.top }

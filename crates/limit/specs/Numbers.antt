@@ -12,7 +12,7 @@ abbrev pub number_of : {G : Type 0} → (G → ℕ) → Option G → ℤ
 number_of rank_of None = negsuc 0
 number_of rank_of (Some g) = pos (rank_of g)
 
--- the rule: of two profiles of one length, the first at most the second, the number at the first is at most the number at the second
+-- the rule: where one profile is nowhere above another as long as it, its number is nowhere above the other's
 abbrev pub Rule : ℕ → Number → Type 0
 Rule top number = (p q : Profile) → Within top p → Within top q → length p ≡ length q → AtMost p q → (i : ℕ) → number p i ≤ℤ number q i
 

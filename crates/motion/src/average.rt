@@ -55,7 +55,7 @@ impl<Q: Offsets> Limit<Speed> for Average<Q> {
     }
 }
 
-// Two squared speeds and an offset. It fits 64 bits signed: each is below 2^31 in size.
+// Two squared speeds and an offset. It fits 64 bits signed: each is at most 2^31 in size.
 fn sum(before: Speed, after: Speed, offset: i32) -> i64
     ensures { result ≡ pos (speed_rank before + speed_rank after) +ℤ offset }
 {
