@@ -61,10 +61,13 @@ impl RowSide {
 }
 
 impl Limits {
-    pub fn new(spacing: u16, samples: &[Sample], gaps: &[Gap], rows: &[Row]) -> Limits {
-        let gap_before = |i: usize| i.checked_sub(1).map(|i| gaps[i]);
-        let gap_after = |i: usize| gaps.get(i).copied();
-        let last = samples.len() - 1;
+    /// The limits of a profile of `count` samples. Mostly that is the path's own count; of a path that is shorter or longer
+    /// than the profile what is missing bounds nothing.
+    pub fn new(count: usize, spacing: u16, samples: &[Sample], gaps: &[Gap], rows: &[Row]) -> Limits {
+        let last = count - 1;
+        let gap_before = |i: usize| i.checked_sub(1).and_then(|i| gaps.get(i));
+        let gap_after = |i: usize| gaps.get(i).filter(|_| i < last);
+        let offset = |i: usize| samples.get(i).filter(|_| i > 0 && i < last);
         let class_steps = (0..=last)
             .map(|i| ClassSteps {
                 above_before: gap_before(i).map_or(CLASS_TOP, |gap| gap.rise),
@@ -75,10 +78,10 @@ impl Limits {
             .map(|i| SpeedSteps {
                 above_before: gap_before(i).map_or(SPEED_TOP, |gap| gap.up),
                 above_after: gap_after(i).map_or(SPEED_TOP, |gap| gap.down),
-                offset: if i == 0 || i == last { NO_OFFSET } else { i64::from(samples[i].offset) },
+                offset: offset(i).map_or(NO_OFFSET, |sample| sample.offset.into()),
             })
             .collect();
-        let (row_sides, first_sides) = row_sides(spacing, samples.len(), rows);
+        let (row_sides, first_sides) = row_sides(spacing, count, rows);
         Limits { class_steps, speed_steps, row_sides, first_sides }
     }
 }
@@ -92,7 +95,7 @@ fn row_sides(spacing: u16, samples: usize, rows: &[Row]) -> (Vec<RowSide>, Vec<u
         first.push(sides.len() as u32);
         sides.extend(rows[before..after].iter().map(|row| RowSide::both(row, spacing)[1]));
         before = after;
-        while rows.get(after).is_some_and(|row| usize::from(row.gap) == i) {
+        while i + 1 < samples && rows.get(after).is_some_and(|row| usize::from(row.gap) == i) {
             after += 1;
         }
         sides.extend(rows[before..after].iter().map(|row| RowSide::both(row, spacing)[0]));

@@ -57,6 +57,16 @@ pub struct Answer {
     pub state: u32,
 }
 
+#[repr(C)]
+#[derive(Clone, Copy, PartialEq, Eq, Debug, Default)]
+pub struct Clash {
+    pub most: i64,
+    pub make: u32,
+    pub bound: u32,
+    pub floor: u32,
+    pub is_there: u32,
+}
+
 /// A job and the two memories that it works on.
 #[derive(Clone, PartialEq, Eq, Debug, Default)]
 pub struct Work {
@@ -66,7 +76,7 @@ pub struct Work {
 }
 
 mod c {
-    use super::{Answer, Call, ClassCell, Job, Refusal, SpeedCell};
+    use super::{Answer, Call, Clash, ClassCell, Job, Refusal, SpeedCell};
 
     #[link(name = "furqyzet_c", kind = "static")]
     unsafe extern "C" {
@@ -110,21 +120,35 @@ mod c {
         );
         pub fn furqyzet_setpoints(
             job: *mut Job,
-            classes: *const ClassCell,
+            classes: *mut ClassCell,
             n: usize,
-            speeds: *const SpeedCell,
+            speeds: *mut SpeedCell,
             m: usize,
             out: *mut u8,
             room: usize,
             refusal: *mut Refusal,
         ) -> u64;
-        pub fn furqyzet_sufficient(
-            classes: *const ClassCell,
+        pub fn furqyzet_sufficient(classes: *mut ClassCell, n: usize, speeds: *mut SpeedCell, m: usize, job: *const Job) -> u64;
+        pub fn furqyzet_bound(
+            frame: *const u8,
+            size: usize,
+            classes: *mut ClassCell,
             n: usize,
-            speeds: *const SpeedCell,
+            speeds: *mut SpeedCell,
             m: usize,
-            job: *const Job,
-        ) -> u64;
+            make: u8,
+            sample: u64,
+        ) -> u32;
+        pub fn furqyzet_clash(
+            frame: *const u8,
+            size: usize,
+            classes: *mut ClassCell,
+            n: usize,
+            speeds: *mut SpeedCell,
+            m: usize,
+            sample: u64,
+            found: *mut Clash,
+        );
     }
 }
 
@@ -210,9 +234,9 @@ impl Work {
         let count = unsafe {
             c::furqyzet_setpoints(
                 &mut self.job,
-                self.classes.as_ptr(),
+                self.classes.as_mut_ptr(),
                 self.classes.len(),
-                self.speeds.as_ptr(),
+                self.speeds.as_mut_ptr(),
                 self.speeds.len(),
                 out.as_mut_ptr(),
                 out.len(),
@@ -222,9 +246,47 @@ impl Work {
         (count, refusal)
     }
 
-    pub fn sufficient(&self) -> u64 {
+    pub fn sufficient(&mut self) -> u64 {
         unsafe {
-            c::furqyzet_sufficient(self.classes.as_ptr(), self.classes.len(), self.speeds.as_ptr(), self.speeds.len(), &self.job)
+            c::furqyzet_sufficient(
+                self.classes.as_mut_ptr(),
+                self.classes.len(),
+                self.speeds.as_mut_ptr(),
+                self.speeds.len(),
+                &self.job,
+            )
         }
+    }
+
+    pub fn bound(&mut self, frame: &[u8], make: u8, sample: u64) -> u32 {
+        unsafe {
+            c::furqyzet_bound(
+                frame.as_ptr(),
+                frame.len(),
+                self.classes.as_mut_ptr(),
+                self.classes.len(),
+                self.speeds.as_mut_ptr(),
+                self.speeds.len(),
+                make,
+                sample,
+            )
+        }
+    }
+
+    pub fn clash(&mut self, frame: &[u8], sample: u64) -> Clash {
+        let mut found = Clash { most: 7777, make: 77, bound: 7777, floor: 77, is_there: 77 };
+        unsafe {
+            c::furqyzet_clash(
+                frame.as_ptr(),
+                frame.len(),
+                self.classes.as_mut_ptr(),
+                self.classes.len(),
+                self.speeds.as_mut_ptr(),
+                self.speeds.len(),
+                sample,
+                &mut found,
+            );
+        }
+        found
     }
 }

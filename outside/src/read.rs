@@ -198,7 +198,13 @@ impl Path {
             let gap_before = rows.last().map_or(0, |row| row.gap);
             rows.push(read_row(bytes, gaps_end + ROW * k, head.samples, gap_before, head.spacing)?);
         }
-        let limits = Limits::new(head.spacing, &samples, &gaps, &rows);
+        let limits = Limits::new(head.samples, head.spacing, &samples, &gaps, &rows);
         Ok(Path { spacing: head.spacing, lateral: head.lateral, samples, gaps, rows, limits })
+    }
+
+    /// This path with limits for a profile of another count of samples.
+    pub fn for_samples(mut self, count: usize) -> Path {
+        self.limits = Limits::new(count, self.spacing, &self.samples, &self.gaps, &self.rows);
+        self
     }
 }

@@ -5,6 +5,7 @@
 #[path = "../../linked.rs"]
 mod linked;
 
+mod bounds;
 mod calls;
 mod events;
 mod frames;
@@ -13,6 +14,7 @@ mod parts;
 mod random;
 mod sequences;
 mod tally;
+mod wrong;
 
 use std::fmt::Display;
 use std::process::ExitCode;
@@ -62,9 +64,9 @@ fn run(tally: &mut Tally, seed: u64, (part, count, case): Part) {
 }
 
 /// Every question that a call of the library can refuse by.
-const QUESTIONS: [u32; 33] = [
+const QUESTIONS: [u32; 35] = [
     10, 11, 12, 13, 14, 15, 16, 17, 18, 20, 21, 22, 23, 24, 25, 30, 31, 32, 40, 41, 42, 43, 44, 45, 46, 50, 51, 60, 61, 62, 70,
-    71, 72,
+    71, 72, 254, 255,
 ];
 
 fn main() -> ExitCode {
@@ -107,10 +109,18 @@ fn report(tally: &Tally, is_whole: bool) -> ExitCode {
     println!("what jobs came to: {}", counts(tally.events.iter().map(|(&event, &count)| (event, count))));
     println!("refusals reached: {}", counts(tally.reached.iter().map(|(&number, &count)| (number, count))));
     let refusals = QUESTIONS.iter().filter(|number| !tally.reached.contains_key(number)).map(u32::to_string);
-    let events = events::EVERY.iter().filter(|event| !tally.events.contains_key(*event)).map(|event| event.to_string());
+    let events = events::EVERY
+        .iter()
+        .chain(&bounds::EVERY)
+        .chain(&bounds::CLASHES)
+        .filter(|event| !tally.events.contains_key(*event))
+        .map(|event| event.to_string());
     let missed: Vec<String> = refusals.chain(events).filter(|_| is_whole).collect();
     if !missed.is_empty() {
         println!("never reached: {}", missed.join(", "));
+    }
+    if !tally.kinds.is_empty() {
+        println!("differences: {}", counts(tally.kinds.iter().map(|(kind, &count)| (kind, count))));
     }
     println!("{} compared, {} differ", tally.compared, tally.differing);
     if tally.differing > 0 || !missed.is_empty() { ExitCode::FAILURE } else { ExitCode::SUCCESS }

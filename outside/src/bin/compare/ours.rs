@@ -7,6 +7,11 @@ use outside::{Layer, Path};
 const NO_LAYER: u32 = 5;
 pub const NO_REFUSAL: Refusal = Refusal { layer: NO_LAYER, number: 0, place: 0 };
 pub const UNKNOWN_CALL: u32 = 254;
+pub const NO_JOB: u32 = 255;
+pub const CLASS_MEMORY: u32 = 50;
+pub const SPEED_MEMORY: u32 = 51;
+/// What an answer holds before a call.
+pub const UNWRITTEN: Answer = Answer { evaluations: 77, lowerings: 77, found: 77, number: 7777, class: 77, speed: 77, state: 77 };
 pub const ADVANCE: u8 = 0;
 pub const CUT: u8 = 1;
 pub const LIFT: u8 = 2;

@@ -1,20 +1,19 @@
 //! Jobs: made in memories of every length, then random calls, then setpoints.
 
+use crate::bounds;
 use crate::calls;
 use crate::events;
 use crate::frames::{self, Layout};
-use crate::linked::{Answer, Call, ClassCell, SpeedCell, Work};
+use crate::linked::{Answer, Call, Clash, ClassCell, SpeedCell, Work};
 use crate::ours::{self, ADVANCE};
 use crate::parts;
 use crate::random::Random;
 use crate::tally::{Case, Tally};
+use crate::wrong;
 use outside::Path;
 use outside::job::{Job, State};
 
 const BEFORE: u8 = 0xa5;
-/// What an answer holds before a call.
-const UNWRITTEN: Answer = Answer { evaluations: 77, lowerings: 77, found: 77, number: 7777, class: 77, speed: 77, state: 77 };
-
 /// A job on both sides: `library` is its words and cells there, `expected` what they should be.
 struct Both {
     case: Case,
@@ -42,7 +41,7 @@ impl Both {
         let k = random.index(8);
         let r = random.pick(&[k, k, k, random.index(k + 1), k + random.index(3)]);
         let mut calls: Vec<Call> = Vec::with_capacity(k);
-        let mut expected = vec![UNWRITTEN; r];
+        let mut expected = vec![ours::UNWRITTEN; r];
         for step in 0..k {
             let call = calls::call(random, &self.job, &self.path, budget);
             calls.push(call);
@@ -50,7 +49,7 @@ impl Both {
                 *answer = self.call(tally, call);
             }
         }
-        let mut answers = vec![UNWRITTEN; r];
+        let mut answers = vec![ours::UNWRITTEN; r];
         let refusal = self.library.run(&self.frame, &calls, &mut answers);
         tally.same(self.case, "the refusal of a run", ours::NO_REFUSAL, refusal);
         for (step, (ours, library)) in expected.iter().zip(&answers).enumerate() {
@@ -97,17 +96,47 @@ impl Both {
         if read.is_err() {
             let refusal = ours::refusal(&read);
             tally.reach(refusal.number);
-            let mut answers = [UNWRITTEN; 2];
+            let mut answers = [ours::UNWRITTEN; 2];
             let answer = self.library.run(&frame, &[Call::default(); 2], &mut answers);
             tally.same(self.case, "the refusal of a run on a damaged frame", refusal, answer);
-            tally.same(self.case, "the answers of a run on a damaged frame", [UNWRITTEN; 2], answers);
+            tally.same(self.case, "the answers of a run on a damaged frame", [ours::UNWRITTEN; 2], answers);
             tally.same(self.case, "the refusal of a making on a damaged frame", refusal, self.library.make(&frame));
             self.compare(tally, "refused calls on a damaged frame");
         }
     }
 
-    fn sufficient(&self, tally: &mut Tally) {
+    fn sufficient(&mut self, tally: &mut Tally) {
         tally.same(self.case, "the sufficient allowance", self.job.sufficient_allowance(), self.library.sufficient());
+    }
+
+    /// What holds a sample's class or speed, and what clashes with its floors.
+    fn bounds(&mut self, tally: &mut Tally, random: &Random) {
+        let n = self.layout.samples;
+        let sample = match self.job.state {
+            State::Impossible { found } if random.percent(60) => found as u64,
+            _ => calls::sample(random, n),
+        };
+        let make = random.pick(&[0, 1, 0, 1, 1, 1, 2, 255]);
+        let holder = bounds::holder(&self.job, &self.path, make, sample);
+        tally.happened(bounds::event(bounds::EVERY, holder));
+        let answer = self.library.bound(&self.frame, make, sample);
+        tally.same(self.case, &format!("what holds sample {sample} of {n} of make {make}"), holder, answer);
+        let clash = bounds::clash(&self.job, &self.path, sample);
+        tally.happened(bounds::event(bounds::CLASHES, clash.bound));
+        tally.same(self.case, &format!("what clashes at sample {sample} of {n}"), clash, self.library.clash(&self.frame, sample));
+        let make = random.up_to(255) as u8;
+        tally.same(self.case, "what holds in a damaged frame", 0, self.library.bound(&[], make, sample));
+        tally.same(self.case, "what clashes in a damaged frame", Clash::default(), self.library.clash(&[], sample));
+    }
+
+    /// Calls under the limits of another frame, which has more samples or fewer or as many: what it lacks bounds nothing.
+    fn other_frame(&mut self, tally: &mut Tally, random: &Random, budget: u64) {
+        let layout = frames::short_layout(random);
+        let frame = frames::frame(random, layout);
+        let path = Path::read(&frame).expect("a good frame").for_samples(self.layout.samples);
+        let own = (std::mem::replace(&mut self.frame, frame), std::mem::replace(&mut self.path, path));
+        self.run(tally, random, budget);
+        (self.frame, self.path) = own;
     }
 
     /// The setpoints of the job as it is: written, or refused with nothing changed.
@@ -188,7 +217,7 @@ fn make(tally: &mut Tally, case: Case, random: &Random, layout: Layout) -> Optio
     };
     events::of_making(&job).into_iter().for_each(|event| tally.happened(event));
     ours::put(&job, &mut expected);
-    let both = Both { case, frame, layout, path, job, library, expected };
+    let mut both = Both { case, frame, layout, path, job, library, expected };
     both.compare(tally, "a making");
     both.sufficient(tally);
     Some(both)
@@ -206,14 +235,20 @@ fn sequence(tally: &mut Tally, case: Case, layout: Layout, chunks: usize, budget
         match random.up_to(19) {
             0 => both.refused(tally, random),
             1 => both.setpoints(tally, random),
-            2 | 3 => both.sufficient(tally),
-            4..=8 => both.advance(tally, random, budget),
+            2 => both.sufficient(tally),
+            3 => wrong::calls(tally, case, random, &both.library, &both.frame),
+            4 => both.other_frame(tally, random, budget),
+            5..=9 => both.advance(tally, random, budget),
             _ => both.run(tally, random, budget),
+        }
+        if random.percent(40) {
+            both.bounds(tally, random);
         }
     }
     if calls::enough(&both.job, &both.path, budget).is_some() {
         both.advance_by(tally, u64::MAX);
     }
+    both.bounds(tally, random);
     both.setpoints(tally, random);
 }
 

@@ -3,10 +3,12 @@
 use std::collections::BTreeMap;
 use std::fmt::Debug;
 
-/// Differences that are printed; the others are only counted.
-const SHOWN: u64 = 40;
-/// The words of one printed answer.
-const WORDS: usize = 600;
+/// Differences of one kind that are printed; the others are only counted.
+const SHOWN: u64 = 5;
+/// The characters of a kind.
+const KIND: usize = 40;
+/// The characters of one printed answer.
+const ANSWER: usize = 600;
 
 /// Which case of which part is at work: with the seed, all that it needs to be made again.
 #[derive(Clone, Copy)]
@@ -20,6 +22,8 @@ pub struct Case {
 pub struct Tally {
     pub compared: u64,
     pub differing: u64,
+    /// Differences by kind: what was compared, without its numbers.
+    pub kinds: BTreeMap<String, u64>,
     pub reached: BTreeMap<u32, u64>,
     pub frames: u64,
     pub sequences: u64,
@@ -31,7 +35,7 @@ pub struct Tally {
 
 fn short(answer: impl Debug) -> String {
     let mut words = format!("{answer:?}");
-    if let Some((end, _)) = words.char_indices().nth(WORDS) {
+    if let Some((end, _)) = words.char_indices().nth(ANSWER) {
         words.truncate(end);
         words.push('…');
     }
@@ -45,7 +49,10 @@ impl Tally {
         let is_same = ours == library;
         if !is_same {
             self.differing += 1;
-            if self.differing <= SHOWN {
+            let kind = what.split_inclusive(|c: char| !c.is_ascii_digit()).map(|word| word.trim_start_matches(char::is_numeric));
+            let seen = self.kinds.entry(kind.take(KIND).collect()).or_default();
+            *seen += 1;
+            if *seen <= SHOWN {
                 println!("differs: --seed {} --only {} {}: {what}", case.seed, case.part, case.number);
                 println!("  outside: {}", short(&ours));
                 println!("  library: {}", short(&library));
