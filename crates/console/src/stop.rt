@@ -1,5 +1,5 @@
 // Why a command stops before its end, and the status of the program then.
-ghost use Rattle.std.specs.Prelude.{◌≡◌};
+ghost use Rattle.std.specs.Prelude.{◌≡◌, MatchResult};
 ghost use Rattle.anyhow.specs.declared.error.Error.{Error};
 ghost use Rattle.console.specs.declared.stop.Stop.TheVariants.{Other};
 
@@ -51,7 +51,7 @@ impl<T: Drop> From<AllocFailed<T>> for Stop {
 
 // The stop for a reason that was printed, or for the error that kept it from being.
 pub(crate) fn reported(printed: io::Result<()>) -> Stop
-    ensures { printed ≡ Ok tt → result ≡ Stop.Reported }
+    ensures { MatchResult printed (λ _. result ≡ Stop.Reported) (λ _. (error : Error) × (result ≡ Stop.Other error)) }
 {
     match printed {
         Ok(()) => Stop::Reported,
