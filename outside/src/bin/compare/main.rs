@@ -31,7 +31,7 @@ struct Wanted {
 }
 
 fn wanted() -> Result<Wanted, String> {
-    let mut wanted = Wanted { seed: 1, frames: 120_000, sequences: 60_000, clauses: 1_000_000, long: 60, only: None };
+    let mut wanted = Wanted { seed: 1, frames: 500_000, sequences: 400_000, clauses: 3_000_000, long: 150, only: None };
     let mut words = std::env::args().skip(1);
     while let Some(option) = words.next() {
         let mut number = || words.next().and_then(|word| word.parse::<u64>().ok()).ok_or(format!("{option} wants a number"));
