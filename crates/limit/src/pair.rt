@@ -38,6 +38,7 @@ impl<G: Grade, A: Limit<G>, B: Limit<G>> Limit<G> for Pair<A, B> {
         self.first.place(at).max(self.second.place(at))
     }
 
+    #[inline(always)]
     fn within(&self, cells: &[Cell<G>], at: usize, most: G, near: usize) -> Allowed<G> {
         let first = self.first.within(cells, at, most, near);
         match first.grade {

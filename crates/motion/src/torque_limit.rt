@@ -60,11 +60,28 @@ impl<R: Rows> Limit<Speed> for Torque<R> {
                 near,
             };
         }
-        let near = first_row_near(&self.rows, at, near);
-        Allowed {
-            grade: rows_within(&self.rows, near, cells, at, most),
-            near,
-        }
+        rows_near(&self.rows, cells, at, most, near)
+    }
+}
+
+// What rows allow a sample between two others, as far as a grade. No part of the loop that goes over the samples, so that the
+// loop keeps its registers where there are no rows.
+#[inline(never)]
+fn rows_near<R: Rows>(
+    rows: &R,
+    cells: &[Cell<Speed>],
+    at: usize,
+    most: Speed,
+    near: usize,
+) -> Allowed<Speed>
+    requires after_first { 1 ≤ at }
+    requires before_last { at + 1 < length cells.now }
+    ensures { number_of speed_rank result.grade ≡ int_min (pos (speed_rank most)) (torque (R.Rows.spacing rows.now) (R.Rows.rows rows.now) (ranks speed_rank cells.now) at) }
+{
+    let near = first_row_near(rows, at, near);
+    Allowed {
+        grade: rows_within(rows, near, cells, at, most),
+        near,
     }
 }
 
