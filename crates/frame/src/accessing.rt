@@ -14,21 +14,26 @@ use words::see_bytes;
 
 impl<'a> PathFrame<'a> {
     /// Reads a path frame: its view, or the one refusal.
+    #[tactic(auto, using(crate::proofs::Accepted::header_is))]
     pub fn read(bytes: &'a [u8]) -> Result<PathFrame<'a>, FrameFault>
         ensures accepts { IsOk result ↔ (accepted bytes.now ≡ true) }
         ensures view { IfOk result (λ frame. frame.bytes.now ≡ bytes.now) }
         ensures refuses { IfErr result (λ fault. path_read bytes.now ≡ Err fault) }
     {
-        read(bytes)?;
-        Ok(PathFrame { bytes })
+        let header = read(bytes)?;
+        Ok(PathFrame { bytes, header })
     }
 
     /// The view of bytes that the function `read` accepted.
+    #[tactic(auto, using(crate::proofs::Accepted::header_long))]
     pub fn over(bytes: &'a [u8]) -> PathFrame<'a>
         requires { accepted bytes.now ≡ true }
         ensures { result.bytes.now ≡ bytes.now }
     {
-        PathFrame { bytes }
+        PathFrame {
+            bytes,
+            header: header_at(bytes),
+        }
     }
 
     /// How many samples and rows there are, the spacing and the lateral number.
@@ -36,7 +41,7 @@ impl<'a> PathFrame<'a> {
     pub fn header(&self) -> Header
         ensures { result ≡ (path_of self.now.bytes.now).header }
     {
-        header_at(self.bytes)
+        self.header
     }
 
     #[tactic(auto, using(crate::proofs::Accepted::header_long, crate::proofs::Accepted::header_many, crate::proofs::Accepted::header_rowed, crate::proofs::Accepted::header_sized))]
@@ -46,7 +51,7 @@ impl<'a> PathFrame<'a> {
     {
         Body {
             bytes: self.bytes,
-            header: header_at(self.bytes),
+            header: self.header,
         }
     }
 

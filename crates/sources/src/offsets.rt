@@ -18,7 +18,8 @@ impl<'a> Offsets for FrameOffsets<'a> {
         self.frame.header().samples as usize
     }
 
+    #[tactic(auto, using(crate::proofs::Known::offset_at))]
     fn offset(&self, at: usize) -> i32 {
-        self.frame.offset(at).unwrap()
+        self.frame.known_offset(at)
     }
 }

@@ -27,7 +27,8 @@ impl<'a> Rows for FrameRows<'a> {
         self.frame.header().rows as usize
     }
 
+    #[tactic(auto, using(crate::proofs::Counted::rows_counted))]
     fn row(&self, at: usize) -> Row {
-        self.frame.row(at).unwrap()
+        self.frame.known_row(at)
     }
 }

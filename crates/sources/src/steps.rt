@@ -56,6 +56,6 @@ impl<'a, G: GapStep> Steps for FrameSteps<'a, G> {
     }
 
     fn step(&self, gap: usize) -> Step {
-        G::step(self.frame.gap(gap).unwrap())
+        G::step(self.frame.known_gap(gap))
     }
 }
