@@ -85,14 +85,18 @@ impl SpacedRow {
         ensures fits { Fit result }
     {
         let row = self.row;
-        Triple {
-            own: row.d.unsigned_abs(),
-            near: self.weight_size(),
-            constant: if row.d < 0 {
-                row.room_below(self.h)
-            } else {
-                row.room_above(self.h)
-            },
+        if row.d < 0 {
+            Triple {
+                own: row.d.unsigned_abs(),
+                near: self.weight_size(),
+                constant: row.room_below(self.h),
+            }
+        } else {
+            Triple {
+                own: row.d as u32,
+                near: row.weight(self.h) as u32,
+                constant: row.room_above(self.h),
+            }
         }
     }
 
@@ -109,14 +113,18 @@ impl SpacedRow {
         ensures fits { Fit result }
     {
         let row = self.row;
-        Triple {
-            own: self.weight_size(),
-            near: row.d.unsigned_abs(),
-            constant: if row.d < 0 {
-                row.room_above(self.h)
-            } else {
-                row.room_below(self.h)
-            },
+        if row.d < 0 {
+            Triple {
+                own: self.weight_size(),
+                near: row.d.unsigned_abs(),
+                constant: row.room_above(self.h),
+            }
+        } else {
+            Triple {
+                own: row.weight(self.h) as u32,
+                near: row.d as u32,
+                constant: row.room_below(self.h),
+            }
         }
     }
 

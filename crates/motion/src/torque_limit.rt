@@ -64,8 +64,9 @@ impl<R: Rows> Limit<Speed> for Torque<R> {
     }
 }
 
-// What rows allow a sample between two others, as far as a grade. No part of the loop that goes over the samples, so that the
-// loop keeps its registers where there are no rows.
+// What rows allow a sample between two others, as far as a grade. No part of the loop over the samples, and named cold, so
+// that the loop keeps its registers where there are no rows.
+#[cold]
 #[inline(never)]
 fn rows_near<R: Rows>(
     rows: &R,
