@@ -4,11 +4,13 @@
 #![tactic(auto)]
 
 mod limits;
+mod no_rows;
 mod offsets;
 mod rows;
 mod steps;
 
-pub use limits::{class_limit, speed_limit};
+pub use limits::{class_limit, speed_limit, speed_limit_without_rows};
+pub use no_rows::NoRows;
 pub use offsets::FrameOffsets;
 pub use rows::FrameRows;
 pub use steps::{FrameSteps, GapStep};

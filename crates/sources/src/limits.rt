@@ -5,6 +5,7 @@ ghost use Rattle.limit.specs.Numbers.{KeptExactly};
 ghost use Rattle.frame.specs.Views.{path_of};
 ghost use Rattle.sources.specs.Sources.{class_number, speed_number, WithinClassLimit, WithinSpeedLimit};
 
+use super::no_rows::NoRows;
 use super::offsets::FrameOffsets;
 use super::rows::FrameRows;
 use super::steps::FrameSteps;
@@ -40,4 +41,20 @@ pub fn speed_limit<'a>(
         make: PhantomData,
     };
     make_speed_limit(steps, FrameOffsets { frame }, FrameRows { frame })
+}
+
+/// The same limit of a frame that has no torque rows.
+pub fn speed_limit_without_rows<'a>(
+    frame: PathFrame<'a>,
+) -> SpeedLimit<FrameSteps<'a, Speed>, FrameOffsets<'a>, NoRows<'a>>
+    requires { (path_of frame.bytes.now).header.rows ≡ 0 }
+    ensures steps { result.first.steps.frame.bytes.now ≡ frame.entry.bytes.now }
+    ensures offsets { result.second.first.offsets.frame.bytes.now ≡ frame.entry.bytes.now }
+    ensures rows { result.second.second.rows.frame.bytes.now ≡ frame.entry.bytes.now }
+{
+    let steps = FrameSteps {
+        frame,
+        make: PhantomData,
+    };
+    make_speed_limit(steps, FrameOffsets { frame }, NoRows { frame })
 }
