@@ -6,7 +6,6 @@ use super::answer_words::AnswerWords;
 use super::cells::{ClassCell, SpeedCell};
 use super::job_words::JobWords;
 use super::lending::{class_cells, speed_cells};
-use super::performing::perform;
 use frame::PathFrame;
 use grade::{Cell, Class, Speed};
 use runs::Call;
@@ -22,7 +21,7 @@ fn perform_words(
     let Some(mut job) = words.job() else {
         return AnswerWords::of_no_job(*words);
     };
-    let answer = perform(frame, &mut job, classes, speeds, call);
+    let answer = planner::call(frame, &mut job, classes, speeds, call);
     *words = JobWords::of(&job);
     AnswerWords::of(answer, job.stage())
 }

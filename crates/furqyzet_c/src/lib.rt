@@ -12,7 +12,6 @@ mod job_words;
 mod lending;
 mod making;
 mod naming;
-mod performing;
 mod refusal_words;
 mod rewriting;
 mod running;

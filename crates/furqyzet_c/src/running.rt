@@ -4,7 +4,6 @@ use super::call_words::CallWords;
 use super::cells::{ClassCell, SpeedCell};
 use super::job_words::JobWords;
 use super::lending::{class_cells, speed_cells};
-use super::performing::perform;
 use super::refusal_words::{NO_JOB, RefusalWords};
 use frame::{Layer, PathFrame, Refusal, read};
 use grade::{Cell, Class, Speed};
@@ -21,7 +20,7 @@ fn perform_call(
     let Some(call) = words.call() else {
         return AnswerWords::of_number(NO_CALL, job.stage());
     };
-    let answer = perform(frame, job, classes, speeds, call);
+    let answer = planner::call(frame, job, classes, speeds, call);
     AnswerWords::of(answer, job.stage())
 }
 
