@@ -1,4 +1,7 @@
 // An answer in the words that C reads.
+ghost use Rattle.std.specs.Prelude.{◌≡◌};
+ghost use Rattle.furqyzet_c.specs.Answers.{of_number, of_no_job, answer_words};
+
 use super::job_words::{JobWords, found_of, state_of};
 use super::refusal_words::NO_JOB;
 use runs::{Answer, Reply, Stage};
@@ -22,7 +25,9 @@ pub(crate) const NO_CALL: u8 = 254;
 
 impl AnswerWords {
     // Refused by a question, beside a job at a stage; where the number is 0, done.
-    pub(crate) fn of_number(number: u8, stage: Stage) -> AnswerWords {
+    pub(crate) fn of_number(number: u8, stage: Stage) -> AnswerWords
+        ensures { result ≡ of_number number stage }
+    {
         AnswerWords {
             evaluations: 0,
             lowerings: 0,
@@ -35,7 +40,9 @@ impl AnswerWords {
     }
 
     // Refused beside words that are no job.
-    pub(crate) fn of_no_job(words: JobWords) -> AnswerWords {
+    pub(crate) fn of_no_job(words: JobWords) -> AnswerWords
+        ensures { result ≡ of_no_job words }
+    {
         AnswerWords {
             evaluations: 0,
             lowerings: 0,
@@ -48,7 +55,9 @@ impl AnswerWords {
     }
 
     // What a call answered that left a job at a stage.
-    pub(crate) fn of(answer: Answer, stage: Stage) -> AnswerWords {
+    pub(crate) fn of(answer: Answer, stage: Stage) -> AnswerWords
+        ensures { result ≡ answer_words answer stage }
+    {
         match answer {
             Ok(Reply::Advanced(progress)) => AnswerWords {
                 evaluations: progress.evaluations,

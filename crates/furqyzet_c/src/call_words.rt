@@ -1,4 +1,7 @@
 // A call in the words that C writes.
+ghost use Rattle.std.specs.Prelude.{◌≡◌};
+ghost use Rattle.furqyzet_c.specs.Calls.{make_in, call_in};
+
 use runs::{Call, Make};
 
 #[derive(Clone, Copy, Debug, PartialEq, Eq)]
@@ -11,7 +14,9 @@ pub struct CallWords {
     pub make: u8,
 }
 
-pub(crate) fn make_in(make: u8) -> Option<Make> {
+pub(crate) fn make_in(make: u8) -> Option<Make>
+    ensures { result ≡ make_in make }
+{
     match make {
         0 => Some(Make::Classes),
         1 => Some(Make::Speeds),
@@ -21,7 +26,9 @@ pub(crate) fn make_in(make: u8) -> Option<Make> {
 
 impl CallWords {
     // The call whose words they are, or nothing where the kind or the make is none.
-    pub(crate) fn call(self) -> Option<Call> {
+    pub(crate) fn call(self) -> Option<Call>
+        ensures { result ≡ call_in self }
+    {
         let make = make_in(self.make)?;
         match self.kind {
             0 => Some(Call::Advance(self.value)),

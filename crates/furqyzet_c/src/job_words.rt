@@ -1,4 +1,7 @@
 // A job in the words that C keeps, and the job that such words are.
+ghost use Rattle.std.specs.Prelude.{◌≡◌};
+ghost use Rattle.furqyzet_c.specs.Jobs.{state_of, found_of, falling_of, words_of, stage_in, direction_in, mark_in, parts_in, Reads};
+
 use job::{Job, Parts};
 use runs::{Direction, Make, Stage, Sweep};
 
@@ -31,7 +34,9 @@ pub(crate) const NO_WORDS: JobWords = JobWords {
     spare: 0,
 };
 
-pub(crate) fn state_of(stage: Stage) -> u8 {
+pub(crate) fn state_of(stage: Stage) -> u8
+    ensures { result ≡ state_of stage }
+{
     match stage {
         Stage::Working(Make::Classes) => 0,
         Stage::Working(Make::Speeds) => 1,
@@ -40,14 +45,18 @@ pub(crate) fn state_of(stage: Stage) -> u8 {
     }
 }
 
-pub(crate) fn found_of(stage: Stage) -> u64 {
+pub(crate) fn found_of(stage: Stage) -> u64
+    ensures { result ≡ found_of stage }
+{
     match stage {
         Stage::Working(_) | Stage::Settled => 0,
         Stage::Impossible(at) => at as u64,
     }
 }
 
-fn falling_of(direction: Direction) -> u8 {
+fn falling_of(direction: Direction) -> u8
+    ensures { result ≡ falling_of direction }
+{
     match direction {
         Direction::Rising => 0,
         Direction::Falling => 1,
@@ -55,7 +64,9 @@ fn falling_of(direction: Direction) -> u8 {
 }
 
 // The stage of a state and the sample that it found.
-fn stage_in(state: u8, found: u64) -> Option<Stage> {
+fn stage_in(state: u8, found: u64) -> Option<Stage>
+    ensures { result ≡ stage_in state found }
+{
     match state {
         3 => Some(Stage::Impossible(found as usize)),
         _ if found != 0 => None,
@@ -66,7 +77,9 @@ fn stage_in(state: u8, found: u64) -> Option<Stage> {
     }
 }
 
-fn direction_in(falling: u8) -> Option<Direction> {
+fn direction_in(falling: u8) -> Option<Direction>
+    ensures { result ≡ direction_in falling }
+{
     match falling {
         0 => Some(Direction::Rising),
         1 => Some(Direction::Falling),
@@ -74,7 +87,9 @@ fn direction_in(falling: u8) -> Option<Direction> {
     }
 }
 
-fn mark_in(marked: u8) -> Option<bool> {
+fn mark_in(marked: u8) -> Option<bool>
+    ensures { result ≡ mark_in marked }
+{
     match marked {
         0 => Some(false),
         1 => Some(true),
@@ -83,7 +98,9 @@ fn mark_in(marked: u8) -> Option<bool> {
 }
 
 impl JobWords {
-    pub(crate) fn of(job: &Job) -> JobWords {
+    pub(crate) fn of(job: &Job) -> JobWords
+        ensures { result ≡ words_of job.now }
+    {
         let parts = job.parts();
         JobWords {
             samples: parts.samples,
@@ -96,12 +113,14 @@ impl JobWords {
         }
     }
 
-    // The job whose words they are, or nothing.
-    pub(crate) fn job(self) -> Option<Job> {
+    // The parts that they stand for, or nothing.
+    fn parts(self) -> Option<Parts>
+        ensures { result ≡ parts_in self }
+    {
         if self.spare != 0 {
             return None;
         }
-        Job::from_parts(Parts {
+        Some(Parts {
             samples: self.samples,
             stage: stage_in(self.state, self.found)?,
             sweep: Sweep {
@@ -110,5 +129,12 @@ impl JobWords {
                 marked: mark_in(self.marked)?,
             },
         })
+    }
+
+    // The job whose words they are, or nothing.
+    pub(crate) fn job(self) -> Option<Job>
+        ensures { Reads self result }
+    {
+        Job::from_parts(self.parts()?)
     }
 }

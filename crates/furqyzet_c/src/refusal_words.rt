@@ -1,4 +1,7 @@
 // A refusal in the words that C reads.
+ghost use Rattle.std.specs.Prelude.{◌≡◌};
+ghost use Rattle.furqyzet_c.specs.Refusals.{layer_number, refusal_words, of_number};
+
 use frame::{Layer, Refusal};
 
 #[derive(Clone, Copy, Debug, PartialEq, Eq)]
@@ -10,7 +13,9 @@ pub struct RefusalWords {
 }
 
 // A layer's number in C.
-fn layer_number(layer: Layer) -> u32 {
+fn layer_number(layer: Layer) -> u32
+    ensures { result ≡ layer_number layer }
+{
     match layer {
         Layer::Frame => 0,
         Layer::Sample => 1,
@@ -27,7 +32,9 @@ const NO_LAYER: u32 = 5;
 pub(crate) const NO_JOB: u8 = 255;
 
 impl RefusalWords {
-    pub(crate) fn of(refusal: Refusal) -> RefusalWords {
+    pub(crate) fn of(refusal: Refusal) -> RefusalWords
+        ensures { result ≡ refusal_words refusal }
+    {
         RefusalWords {
             layer: layer_number(refusal.layer),
             number: refusal.number as u32,
@@ -36,7 +43,9 @@ impl RefusalWords {
     }
 
     // A question of no layer; where the number is 0, none says no.
-    pub(crate) fn of_number(number: u8) -> RefusalWords {
+    pub(crate) fn of_number(number: u8) -> RefusalWords
+        ensures { result ≡ of_number number }
+    {
         RefusalWords {
             layer: NO_LAYER,
             number: number as u32,
