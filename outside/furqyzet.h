@@ -40,7 +40,8 @@ enum { FURQYZET_WORKING_ON_CLASSES, FURQYZET_WORKING_ON_SPEEDS, FURQYZET_SETTLED
 
 /* A job: how many samples it has, the sample at which it was found impossible (else 0), how many samples its sweep has visited,
  * its state (above), whether the sweep falls and whether it is marked (0 or 1). All zero: no job. Each call asks whether the
- * words are a job's. */
+ * words are a job's: 2 to 4096 samples, fewer visited than there are, a state up to 3, `falling` and `marked` 0 or 1, `spare` 0,
+ * and `found` 0 unless the job is impossible; then any `found` passes. */
 typedef struct { uint64_t samples, found, visited; uint8_t state, falling, marked, spare; } furqyzet_job;
 
 enum { FURQYZET_ADVANCE, FURQYZET_CUT, FURQYZET_LIFT, FURQYZET_LOOK };
@@ -61,7 +62,7 @@ void furqyzet_check(const uint8_t *frame, size_t size, furqyzet_refusal *refusal
 int64_t furqyzet_cap(uint8_t kind, uint32_t first, uint32_t second, uint32_t lateral);
 
 /* Reads a path frame and writes its records again: the same bytes, and their count is returned. Refuses by 10 to 46, and by 72
- * where `out` is shorter than the frame: then 0 is returned, and `out` is as it was. */
+ * of no layer where `out` is shorter than the frame: then 0 is returned, and `out` is as it was. */
 uint64_t furqyzet_rewrite(const uint8_t *frame, size_t size, uint8_t *out, size_t room, furqyzet_refusal *refusal);
 
 /* Makes the job of a path frame: each cell's value at its cap. Refuses by 10 to 46, and by 50 or 51 where a memory has fewer
@@ -91,12 +92,14 @@ uint64_t furqyzet_sufficient(furqyzet_class_cell *classes, size_t n, furqyzet_sp
                              const furqyzet_job *job);
 
 /* What holds a sample's value where it is: 1 its cap, 2 its class, 3 the ramp before, 4 the ramp after, 5 the average, 6 + k the
- * torque row k; 0 where nothing does, and where the frame, the make or the sample is none. Reads the frame again. */
+ * torque row k; 0 where nothing does, where the frame, the make or the sample is none, and where a memory is too short. Reads the
+ * frame again. */
 uint32_t furqyzet_bound(const uint8_t *frame, size_t size, furqyzet_class_cell *classes, size_t n, furqyzet_speed_cell *speeds,
                         size_t m, uint8_t make, uint64_t sample);
 
 /* What allows a sample less than its floor: how much (-1 where nothing fits), of which make, which bound (as above) and the
- * floor; all zero where nothing does, and where the frame or the sample is none. Reads the frame again. */
+ * floor; all zero where nothing does, where the frame or the sample is none, and where a memory is too short. Reads the frame
+ * again. */
 typedef struct { int64_t most; uint32_t make, bound, floor, is_there; } furqyzet_clash_found;
 
 void furqyzet_clash(const uint8_t *frame, size_t size, furqyzet_class_cell *classes, size_t n, furqyzet_speed_cell *speeds,

@@ -1,1 +1,4 @@
+pub mod Folding
+pub mod Lent
+pub mod Own
 pub mod Recast

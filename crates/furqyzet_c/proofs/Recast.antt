@@ -1,5 +1,6 @@
--- A `&mut` of a slice is lent on as a slice of another type that lies alike, and the lender follows the new name. Assumes `Logic`.
-use Rattle.std.proofs.Common.{◌≡◌, ℕ, ◌+◌, List, [], ◌∷◌, map, length, refl, sym, ◌∙◌}
+-- A `&mut` of a slice is lent on as a slice of another type that lies alike, beside an empty one, and the lender follows the
+-- first. Assumes `Logic`.
+use Rattle.std.proofs.Common.{◌≡◌, ℕ, ◌+◌, List, [], ◌∷◌, map, length, refl, sym, ◌∙◌, MutBor}
 use lib.ListN.{length-map}
 use seplogic.Ra.Ura.{Ura}
 use mir.Syntax.{Lifetime}
@@ -8,16 +9,16 @@ use base.Logic.{SProp, ent, sep, ex, emp}
 use base.Stored.{coded_list}
 use base.Fml.{Lft, GName, Share, flft, fobs, fbor}
 use types.Logic.{Logic, sem}
-use types.Kit.{Item, ‵, ◌⊛◌, raw, ◌$◌, ◌∵◌, !, qed, move, keep, drop, fsplit, fsplit3, fjoin, updating, await, later, some, use1, use2, group, pick, now, show, done, rewrite, feq_l, feq_i, split3}
+use types.Kit.{Item, ‵, ◌⊛◌, raw, ◌$◌, ◌∵◌, !, qed, move, keep, drop, fsplit, fsplit3, fjoin, updating, await, later, some, use1, group, pick, now, show, done, rewrite, feq_l, feq_i, split3}
 use types.SemTy.{cells, Arr, Body}
-use types.Follow.{takes_part}
+use types.Follow.{takes_two, after₂}
 use types.Mut.{open_ref}
 use denote.RattleType.{RattleType}
 use denote.Memory.{mem}
 use denote.Array.{Array}
 use denote.Slice.{MutSlice, Room, slice_val}
 use denote.Steps.{nothing}
-use denote.Follow.{follows}
+use denote.Follow.{both_by, follows_both}
 use denote.FollowSlice.{heres_id, slice_of}
 
 -- a value of the one type lies as a value of the other
@@ -47,23 +48,38 @@ module _ {M : Type 1} {𝓤 : Ura M} (𝓛 : Logic 𝓤) (S R : RattleType) (f :
     abbrev ys : List R.Denot
     ys = map f xs
 
-    put_back : (ws : List R.Denot) → ent 𝓤 (sep 𝓤 (sem 𝓛 ((Arr (mem R) (length ys)).own_at ws b o)) (emp 𝓤)) (sem 𝓛 ((Arr (mem S) (length xs)).own_at (map g ws) b o))
-    put_back ws = qed 𝓛 (‵ ((Arr (mem R) (length ys)).own_at ws b o) ∷ raw (emp 𝓤) ∷ []) ∵ fsplit ! $ feq_l ! (λ e.
+    -- the cells come back, and what lies in the second part is none
+    put_back : (ws zs : List R.Denot) → ent 𝓤 (sep 𝓤 (sem 𝓛 ((Arr (mem R) (length ys)).own_at ws b o)) (sep 𝓤 (sem 𝓛 ((Arr (mem R) 0).own_at zs b o)) (emp 𝓤))) (sem 𝓛 ((Arr (mem S) (length xs)).own_at (map g ws) b o))
+    put_back ws zs = qed 𝓛 (‵ ((Arr (mem R) (length ys)).own_at ws b o) ∷ ‵ ((Arr (mem R) 0).own_at zs b o) ∷ raw (emp 𝓤) ∷ []) ∵ fsplit ! $ feq_l ! (λ e.
         use1 𝓛 (‵ (cells (mem S) (map g ws) b o)) (cells_back b ws o) $
         feq_i ! ℕ (length (map g ws)) (length xs) (length-map ws g ∙ e ∙ length-map xs f) $ fjoin ! $ keep ! (0 ∷ []) $ done !)
 
-    -- the slice under a new name, the token, and what the lender ends as
-    abbrev pub lent : GName → Item 𝓤
-    lent δ = ‵ ((MutSlice ℓ κ R).own_val (record { ref_ptr = (b, o); ghost_name = δ; now = ys }) (slice_val (b, o) (length ys) ∷ [])) ⊛ ‵ (flft κ q) ⊛ ‵ (follows (Array S 0) (Array R 0) γ δ (map g))
+    abbrev F : List R.Denot → List R.Denot → List S.Denot
+    F ws zs = map g ws
 
-    abbrev Lent : GName → SProp 𝓤
-    Lent δ = sep 𝓤 (sem 𝓛 ((MutSlice ℓ κ R).own_val (record { ref_ptr = (b, o); ghost_name = δ; now = ys }) (slice_val (b, o) (length ys) ∷ []))) (sep 𝓤 (A.lft κ q) (sem 𝓛 (follows (Array S 0) (Array R 0) γ δ (map g))))
+    abbrev pub one : GName × GName → MutBor (List R.Denot)
+    one δ = record { ref_ptr = (b, o); ghost_name = δ.0; now = ys }
 
-    pub lends_alike : Room R (length ys) → (vs : List Val)
+    abbrev pub two : GName × GName → MutBor (List R.Denot)
+    two δ = record { ref_ptr = (b, o); ghost_name = δ.1; now = [] }
+
+    -- the slice and an empty one under new names, the token, and what the lender ends as
+    abbrev pub lent : GName × GName → Item 𝓤
+    lent δ = ‵ ((MutSlice ℓ κ R).own_val (one δ) (slice_val (b, o) (length ys) ∷ [])) ⊛ ‵ ((MutSlice ℓ κ R).own_val (two δ) (slice_val (b, o) 0 ∷ [])) ⊛ ‵ (flft κ q) ⊛ ‵ (follows_both (Array S 0) (Array R 0) (Array R 0) γ δ.0 δ.1 F)
+
+    abbrev Lent : GName × GName → SProp 𝓤
+    Lent δ = sep 𝓤 (sem 𝓛 ((MutSlice ℓ κ R).own_val (one δ) (slice_val (b, o) (length ys) ∷ []))) (sep 𝓤 (sem 𝓛 ((MutSlice ℓ κ R).own_val (two δ) (slice_val (b, o) 0 ∷ []))) (sep 𝓤 (A.lft κ q) (sem 𝓛 (follows_both (Array S 0) (Array R 0) (Array R 0) γ δ.0 δ.1 F))))
+
+    pub lends_alike : Room R (length ys) → Room R 0 → (vs : List Val)
         → ent 𝓤 (sep 𝓤 (sem 𝓛 ((MutSlice ℓ κ S).own_val (record { ref_ptr = (b, o); ghost_name = γ; now = xs }) vs)) (A.lft κ q)) (H.⇛ (ex 𝓤 Lent))
-    lends_alike rm vs = qed 𝓛 (‵ ((MutSlice ℓ κ S).own_val (record { ref_ptr = (b, o); ghost_name = γ; now = xs }) vs) ∷ ‵ (flft κ q) ∷ []) ∵ updating ! $ fsplit3 ! $ drop ! $
+    unfolding both_by
+    lends_alike rm rm0 vs = qed 𝓛 (‵ ((MutSlice ℓ κ S).own_val (record { ref_ptr = (b, o); ghost_name = γ; now = xs }) vs) ∷ ‵ (flft κ q) ∷ []) ∵ updating ! $ fsplit3 ! $ drop ! $
         rewrite ! 0 (λ (l : List S.Denot). ‵ (fobs γ ((coded_list S.coded).code l))) (heres_id S xs) refl $ open_ref ! tt (Arr (mem S) (length xs)) {b = b} {o = o} $ fsplit ! $ drop ! $
-        use1 𝓛 (‵ (cells (mem R) ys b o)) (cells_there b xs o) $ feq_i ! ℕ (length ys) (length ys) refl $ fjoin ! $ nothing ! $ move ! (2 ∷ 3 ∷ 4 ∷ 1 ∷ 0 ∷ []) $ group ! 5 $
-        use1 𝓛 (later (some (λ (δ : GName). ‵ (fobs δ ((coded_list R.coded).code ys)) ⊛ ‵ (fbor κ (Body (Arr (mem R) (length ys)) b o δ)) ⊛ ‵ (flft κ q) ⊛ ‵ (follows (Array S 0) (Array R 0) γ δ (map g)))))
-        (takes_part 𝓛 (Arr (mem S) (length xs)) (Arr (mem R) (length ys)) (map g) κ q b o b o γ (emp 𝓤) put_back ((coded_list S.coded).code xs) ((coded_list S.coded).code xs) ys) $ await ! tt $ pick ! (λ δ. split3 ! $
-        use2 𝓛 (‵ ((MutSlice ℓ κ R).own_val (record { ref_ptr = (b, o); ghost_name = δ; now = ys }) (slice_val (b, o) (length ys) ∷ []))) (slice_of 𝓛 R ℓ κ b o δ ys rm) $ now ! $ show ! Lent δ $ done !)
+        use1 𝓛 (‵ (cells (mem R) ys b o)) (cells_there b xs o) $ feq_i ! ℕ (length ys) (length ys) refl $ fjoin ! $
+        nothing ! $ feq_i ! ℕ (length {A = R.Denot} []) 0 refl $ fjoin ! $
+        nothing ! $ move ! (3 ∷ 4 ∷ 5 ∷ 2 ∷ 1 ∷ 0 ∷ []) $ group ! 6 $
+        use1 𝓛 (later (some (λ (δ : GName × GName). (‵ (fobs δ.0 ((coded_list R.coded).code ys)) ⊛ ‵ (fbor κ (Body (Arr (mem R) (length ys)) b o δ.0))) ⊛ (‵ (fobs δ.1 ((coded_list R.coded).code [])) ⊛ ‵ (fbor κ (Body (Arr (mem R) 0) b o δ.1))) ⊛ ‵ (flft κ q) ⊛ ‵ (after₂ (Arr (mem S) (length xs)) (Arr (mem R) (length ys)) (Arr (mem R) 0) γ δ.0 δ.1 F))))
+        (takes_two 𝓛 (Arr (mem S) (length xs)) (Arr (mem R) (length ys)) (Arr (mem R) 0) F κ q b o b o b o γ (emp 𝓤) put_back ((coded_list S.coded).code xs) ((coded_list S.coded).code xs) ys []) $ await ! tt $ pick ! (λ δ. split3 ! $
+        use1 𝓛 (‵ ((MutSlice ℓ κ R).own_val (one δ) (slice_val (b, o) (length ys) ∷ []))) (slice_of 𝓛 R ℓ κ b o δ.0 ys rm) $ move ! (1 ∷ []) $
+        use1 𝓛 (‵ ((MutSlice ℓ κ R).own_val (two δ) (slice_val (b, o) 0 ∷ []))) (slice_of 𝓛 R ℓ κ b o δ.1 [] rm0) $ move ! (1 ∷ 0 ∷ []) $
+        now ! $ show ! Lent δ $ done !)

@@ -1,5 +1,6 @@
 -- An answer in the words that C reads.
-use Rattle.std.specs.Prelude.{ℕ, List, [], ◌∷◌, Some, None, Ok, Err}
+use Rattle.std.specs.Prelude.{ℕ, List, [], ◌∷◌, Some, None, Ok, Err, Option}
+use Rattle.runs.specs.declared.call.Call.{Call}
 use Rattle.runs.specs.declared.reply.Reply.TheVariants.{Advanced, Done, Seen}
 use Rattle.runs.specs.declared.stage.Stage.{Stage}
 use Rattle.runs.specs.Answers.{Answer}
@@ -28,10 +29,17 @@ answer_words (Ok Done) t = of_number 0 t
 answer_words (Ok (Seen s)) t = record { evaluations = 0; lowerings = 0; found = found_of t; number = 0; class = s.class; speed = s.speed; state = state_of t }
 answer_words (Err f) t = of_number (question_of f) t
 
+-- the answer to a call on a job; where it is none, by its number
+abbrev pub replied_to : Setting → Option Call → Whole → AnswerWords
+replied_to σ None j = of_number 254 j.stage
+replied_to σ (Some c) j = answer_words (answered σ c j) (called σ c j).stage
+
+-- and the job after it
+abbrev pub moved : Setting → Option Call → Whole → Whole
+moved σ None j = j
+moved σ (Some c) j = called σ c j
+
 -- the answers of a sequence of calls, those that are none among them
 unfoldable pub replies : Setting → List CallWords → Whole → List AnswerWords
 replies σ [] j = []
-replies σ (w ∷ ws) j = elim (call_in w) [
-  | None ↦ of_number 254 j.stage ∷ replies σ ws j
-  | Some c ↦ answer_words (answered σ c j) (called σ c j).stage ∷ replies σ ws (called σ c j)
-]
+replies σ (w ∷ ws) j = replied_to σ (call_in w) j ∷ replies σ ws (moved σ (call_in w) j)

@@ -22,7 +22,12 @@ kind_in w m =
 abbrev pub call_in : CallWords → Option Call
 call_in w = given (make_in w.make) (kind_in w)
 
+-- a call, where there is one, before others
+abbrev pub before : Option Call → List Call → List Call
+before None cs = cs
+before (Some c) cs = c ∷ cs
+
 -- the calls among words, in their order
 unfoldable pub calls_in : List CallWords → List Call
 calls_in [] = []
-calls_in (w ∷ ws) = elim (call_in w) [ None ↦ calls_in ws | Some c ↦ c ∷ calls_in ws ]
+calls_in (w ∷ ws) = before (call_in w) (calls_in ws)

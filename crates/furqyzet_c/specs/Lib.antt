@@ -1,7 +1,14 @@
+pub mod Allowing
 pub mod Answers
 pub mod Calls
 pub mod Capping
 pub mod Cells
+pub mod Clashing
 pub mod Jobs
 pub mod Lending
+pub mod Making
+pub mod Naming
+pub mod Performing
 pub mod Refusals
+pub mod Rewriting
+pub mod Sending

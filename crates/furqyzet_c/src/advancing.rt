@@ -1,6 +1,11 @@
 // Advancing a job within a bus cycle.
 ghost use Rattle.std.specs.Prelude.{◌≡◌, true};
 ghost use Rattle.frame.specs.Paths.{accepted};
+ghost use Rattle.frame.specs.Views.{path_of};
+ghost use Rattle.sources.specs.Sources.{class_number, speed_number};
+ghost use Rattle.runs.specs.declared.call.Call.TheVariants.{Advance};
+ghost use Rattle.furqyzet_c.specs.Cells.{class_cells_of, speed_cells_of};
+ghost use Rattle.furqyzet_c.specs.Performing.{ActsWords, memory};
 
 use super::answer_words::AnswerWords;
 use super::cells::{ClassCell, SpeedCell};
@@ -17,7 +22,9 @@ fn perform_words(
     speeds: &mut [Cell<Speed>],
     words: &mut JobWords,
     call: Call,
-) -> AnswerWords {
+) -> AnswerWords
+    ensures { ActsWords (class_number (path_of frame.entry.bytes.now)) (speed_number (path_of frame.entry.bytes.now)) call (memory words.old classes.old speeds.old) (memory words.new classes.new speeds.new) result }
+{
     let Some(mut job) = words.job() else {
         return AnswerWords::of_no_job(*words);
     };
@@ -27,6 +34,7 @@ fn perform_words(
 }
 
 #[unsafe(no_mangle)]
+#[tactic(auto, using(crate::proofs::Lent::classes_again, crate::proofs::Lent::speeds_again))]
 pub extern "C" fn furqyzet_advance(
     frame: &[u8],
     classes: &mut [ClassCell],
@@ -36,11 +44,12 @@ pub extern "C" fn furqyzet_advance(
     answer: &mut AnswerWords,
 )
     requires { accepted frame.now ≡ true }
+    ensures { ActsWords (class_number (path_of frame.now)) (speed_number (path_of frame.now)) (Advance allowance) (memory job.old (class_cells_of classes.old) (speed_cells_of speeds.old)) (memory job.new (class_cells_of classes.new) (speed_cells_of speeds.new)) answer.new }
 {
     *answer = perform_words(
         PathFrame::over(frame),
-        class_cells(classes),
-        speed_cells(speeds),
+        class_cells(classes).0,
+        speed_cells(speeds).0,
         job,
         Call::Advance(allowance),
     );

@@ -1,16 +1,25 @@
-// What holds a sample's value where it is, and what lies below its floor.
+// What holds a sample's value where it is.
+ghost use Rattle.std.specs.Prelude.{◌≡◌};
+ghost use Rattle.furqyzet_c.specs.Cells.{class_cells_of, speed_cells_of};
+ghost use Rattle.frame.specs.Views.{path_of};
+ghost use Rattle.job.specs.Whole.{sheets_of};
+ghost use Rattle.furqyzet_c.specs.Calls.{make_in};
+ghost use Rattle.furqyzet_c.specs.Naming.{bound_number, number_of, BindsFor, BindsOf, BindsWords};
+
 use super::call_words::make_in;
 use super::cells::{ClassCell, SpeedCell};
 use super::lending::{class_cells, speed_cells};
-use binding::{Bound, Clash, clash, class_bound, speed_bound};
+use binding::{Bound, class_bound, speed_bound};
 use frame::{PathFrame, read};
 use grade::{Cell, Class, Speed};
 use runs::Make;
 
-// The number of a first torque row.
+// The number of the first torque row.
 const FIRST_ROW: u32 = 6;
 
-fn bound_number(bound: Bound) -> u32 {
+pub(crate) fn bound_number(bound: Bound) -> u32
+    ensures { result ≡ bound_number bound }
+{
     match bound {
         Bound::Cap => 1,
         Bound::Class => 2,
@@ -24,97 +33,80 @@ fn bound_number(bound: Bound) -> u32 {
 // The number of no bound.
 const NO_BOUND: u32 = 0;
 
-fn find_bound(
+fn number_of(bound: Option<Bound>) -> u32
+    ensures { result ≡ number_of bound }
+{
+    match bound {
+        Some(bound) => bound_number(bound),
+        None => NO_BOUND,
+    }
+}
+
+// The number of what holds a sample's value of a make, in the sheets of a path's samples.
+fn bound_for(
+    frame: PathFrame<'_>,
+    classes: &[Cell<Class>],
+    speeds: &[Cell<Speed>],
+    make: u8,
+    sample: u64,
+) -> u32
+    ensures { BindsFor (path_of frame.entry.bytes.now) (make_in make) (sheets_of classes.now speeds.now) sample result }
+{
+    let at = sample as usize;
+    match make_in(make) {
+        Some(Make::Classes) => number_of(class_bound(frame, classes, at)),
+        Some(Make::Speeds) => number_of(speed_bound(frame, classes, speeds, at)),
+        None => NO_BOUND,
+    }
+}
+
+// The same in memories, whose cells past the samples count for nothing.
+fn bound_of(
+    frame: PathFrame<'_>,
+    classes: &[Cell<Class>],
+    speeds: &[Cell<Speed>],
+    make: u8,
+    sample: u64,
+) -> u32
+    ensures { BindsOf (path_of frame.entry.bytes.now) (make_in make) classes.now speeds.now sample result }
+{
+    let n = frame.header().samples as usize;
+    if classes.len() < n || speeds.len() < n {
+        return NO_BOUND;
+    }
+    bound_for(frame, &classes[..n], &speeds[..n], make, sample)
+}
+
+// The same of a frame that is read first.
+fn bound_in(
     bytes: &[u8],
     classes: &[Cell<Class>],
     speeds: &[Cell<Speed>],
     make: u8,
     sample: u64,
-) -> Option<Bound> {
-    read(bytes).ok()?;
-    let frame = PathFrame::over(bytes);
-    match make_in(make)? {
-        Make::Classes => class_bound(frame, classes, sample as usize),
-        Make::Speeds => speed_bound(frame, classes, speeds, sample as usize),
+) -> u32
+    ensures { BindsWords bytes.now make classes.now speeds.now sample result }
+{
+    match read(bytes) {
+        Ok(_) => bound_of(PathFrame::over(bytes), classes, speeds, make, sample),
+        Err(_) => NO_BOUND,
     }
 }
 
 #[unsafe(no_mangle)]
+#[tactic(auto, using(crate::proofs::Lent::classes_again, crate::proofs::Lent::speeds_again))]
 pub extern "C" fn furqyzet_bound(
     frame: &[u8],
     classes: &mut [ClassCell],
     speeds: &mut [SpeedCell],
     make: u8,
     sample: u64,
-) -> u32 {
-    match find_bound(
-        frame,
-        class_cells(classes),
-        speed_cells(speeds),
-        make,
-        sample,
-    ) {
-        Some(bound) => bound_number(bound),
-        None => NO_BOUND,
-    }
-}
-
-// A clash in the words that C reads.
-#[derive(Clone, Copy, Debug, PartialEq, Eq)]
-#[repr(C)]
-pub struct ClashWords {
-    // What the bound allows; -1 where nothing fits.
-    pub most: i64,
-    pub make: u32,
-    pub bound: u32,
-    pub floor: u32,
-    // 1 where there is a clash; else 0, as all the rest.
-    pub is_there: u32,
-}
-
-fn make_number(make: Make) -> u32 {
-    match make {
-        Make::Classes => 0,
-        Make::Speeds => 1,
-    }
-}
-
-fn clash_words(found: Option<Clash>) -> ClashWords {
-    match found {
-        Some(clash) => ClashWords {
-            most: clash.most.map_or(-1, |most| most as i64),
-            make: make_number(clash.make),
-            bound: bound_number(clash.bound),
-            floor: clash.floor,
-            is_there: 1,
-        },
-        None => ClashWords {
-            most: 0,
-            make: 0,
-            bound: NO_BOUND,
-            floor: 0,
-            is_there: 0,
-        },
-    }
-}
-
-fn find_clash(
-    bytes: &[u8],
-    classes: &[Cell<Class>],
-    speeds: &[Cell<Speed>],
-    sample: u64,
-) -> Option<Clash> {
-    read(bytes).ok()?;
-    clash(PathFrame::over(bytes), classes, speeds, sample as usize)
-}
-
-#[unsafe(no_mangle)]
-pub extern "C" fn furqyzet_clash(
-    frame: &[u8],
-    classes: &mut [ClassCell],
-    speeds: &mut [SpeedCell],
-    sample: u64,
-    found: &mut ClashWords,
-) {
-    *found = clash_words(find_clash(frame, class_cells(classes), speed_cells(speeds), sample));
+) -> u32
+    ensures binds { BindsWords frame.now make (class_cells_of classes.old) (speed_cells_of speeds.old) sample result }
+    ensures same_classes { class_cells_of classes.new ≡ class_cells_of classes.old }
+    ensures same_speeds { speed_cells_of speeds.new ≡ speed_cells_of speeds.old }
+{
+    let classes = class_cells(classes).0;
+    let speeds = speed_cells(speeds).0;
+    bound_in(frame, classes, speeds, make, sample)
 }

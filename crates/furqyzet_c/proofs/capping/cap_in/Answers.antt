@@ -1,5 +1,5 @@
 -- A clause that was read is legal, and its kind is one of the four.
-use Rattle.std.proofs.Common.{rules, ◌≡◌, ℕ, ◌≤◌, Ok, Err, Some, Option, Result, arith}
+use Rattle.std.proofs.Common.{rules, ◌≡◌, ℕ, ◌≤◌, Ok, Err, Some, Result, arith}
 use Rattle.std.specs.Result.{result_ok}
 use Rattle.clause.specs.declared.kind.ClauseKind.{ClauseKind}
 use Rattle.clause.specs.declared.kind.ClauseKind.TheVariants.{Free, Straight, Bend, Fixed}
