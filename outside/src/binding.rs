@@ -72,8 +72,10 @@ fn speed_bounds(job: &Job, path: &Path, sample: usize) -> Vec<Allowed> {
     let around = [before, None, after].map(|value| i64::from(value.unwrap_or(SPEED_TOP)));
     let first_row = path.rows.partition_point(|row| usize::from(row.gap) + 1 < sample);
     let sides = &limits.row_sides[limits.first_sides[sample] as usize..limits.first_sides[sample + 1] as usize];
-    let rows = sides.iter().enumerate();
-    bounds.extend(rows.map(|(k, side)| Allowed { bound: Bound::Row(first_row + k), most: side_allows(side, around) }));
+    // a row at another gap bounds nothing here: it allows the top
+    let side = |k: usize| k.checked_sub(first_row).and_then(|k| sides.get(k));
+    let allows = |k| side(k).map_or(SPEED_TOP.into(), |side| side_allows(side, around));
+    bounds.extend((0..path.rows.len()).map(|k| Allowed { bound: Bound::Row(k), most: allows(k) }));
     bounds
 }
 

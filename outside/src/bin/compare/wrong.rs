@@ -1,6 +1,6 @@
 //! Jobs and memories that are none or too short: each call refuses, and nothing else changes.
 
-use crate::linked::{Answer, Call, Job as Words, Work};
+use crate::linked::{Answer, Call, Clash, Job as Words, Work};
 use crate::ours::{self, CLASS_MEMORY, NO_JOB, SPEED_MEMORY};
 use crate::random::Random;
 use crate::tally::{Case, Tally};
@@ -13,14 +13,13 @@ const BEFORE: u8 = 0xa5;
 
 /// Whether these words are a job's.
 fn are_a_job(words: &Words) -> bool {
-    let is_found = if words.state == IMPOSSIBLE { words.found < words.samples } else { words.found == 0 };
     (SAMPLES_LEAST..=SAMPLES_MOST).contains(&words.samples)
         && words.visited < words.samples
         && words.state <= IMPOSSIBLE
         && words.falling <= 1
         && words.marked <= 1
         && words.spare == 0
-        && is_found
+        && (words.state == IMPOSSIBLE || words.found == 0)
 }
 
 /// What a call on this work refuses before it asks anything else.
@@ -46,7 +45,7 @@ fn spoil_words(random: &Random, job: &mut Words) {
         5 => job.falling = byte,
         6 => job.marked = byte,
         7 => job.spare = byte,
-        _ => (job.state, job.found) = (IMPOSSIBLE, random.pick(&[n, n + 1, u64::MAX])),
+        _ => (job.visited, job.spare) = (random.pick(&[0, n - 1, n]), random.pick(&[0, 1])),
     }
 }
 
@@ -89,5 +88,10 @@ pub fn calls(tally: &mut Tally, case: Case, random: &Random, work: &Work, frame:
     tally.same(case, &what("the answer to setpoints"), (0, ours::bare(number)), library.setpoints(&mut out));
     tally.same(case, &what("the memory of setpoints"), [BEFORE; 40], out);
     tally.same(case, &what("the sufficient allowance"), 0, library.sufficient());
+    if number != NO_JOB {
+        let (make, sample) = (random.up_to(1) as u8, random.up_to(spoilt.job.samples));
+        tally.same(case, &what("what holds a value"), 0, library.bound(frame, make, sample));
+        tally.same(case, &what("what clashes"), Clash::default(), library.clash(frame, sample));
+    }
     tally.same(case, &what("what refused calls leave"), &spoilt, &library);
 }
