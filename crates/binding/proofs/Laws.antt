@@ -167,6 +167,9 @@ module _ (path : Path) (classes : List (Cell Class)) (speeds : List (Cell Speed)
   outside_speeds : (length classes ≤ i) ⊎ (length speeds ≤ i) → inside S Speeds i ≡ false
   outside_speeds = ⊎_elim (λ h. and_left (inside S Classes i) _ (outside_classes h)) (λ h. and_right (inside S Classes i) _ (there speed_rank speeds ∙ le-ltb i (length speeds) h))
 
+  pub no_class : (o : Option Bound) → o ≡ None → length classes ≤ i → Binds path S Classes i o
+  no_class o e h = binds Classes o (e ∙ sym (cond-false (inside S Classes i) (bound_of path S Classes i) None (outside_classes h)))
+
   pub no_speed : (o : Option Bound) → o ≡ None → (length classes ≤ i) ⊎ (length speeds ≤ i) → Binds path S Speeds i o
   no_speed o e h = binds Speeds o (e ∙ sym (cond-false (inside S Speeds i) (bound_of path S Speeds i) None (outside_speeds h)))
 

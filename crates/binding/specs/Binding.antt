@@ -1,17 +1,24 @@
 -- The binding constraint of a sample.
-use Rattle.std.specs.Prelude.{◌≡◌, ℕ, Bool, true, cond, ◌&&◌, length, pos, Some, None, Option, ◌≢◌, nat_lt}
+use Rattle.std.specs.Prelude.{◌≡◌, ℕ, Bool, true, cond, ◌&&◌, List, length, take, pos, Some, None, Option, ◌≢◌, nat_lt}
+use Rattle.grade.specs.declared.cell.Cell.{Cell}
+use Rattle.grade.specs.declared.class.Class.{Class}
+use Rattle.grade.specs.declared.speed.Speed.{Speed}
 use Rattle.frame.specs.Paths.{Path}
 use Rattle.runs.specs.declared.stage.Make.{Make}
 use Rattle.runs.specs.declared.stage.Make.TheVariants.{Classes, Speeds}
 use Rattle.runs.specs.Keeping.{Greatest, own, bounds_in}
 use Rattle.runs.specs.Sheets.{Sheets, sheet, cell}
 use Rattle.sources.specs.Sources.{class_number, speed_number}
-use Rattle.job.specs.Whole.{setting, top_of}
+use Rattle.job.specs.Whole.{setting, sheets_of, top_of}
 use Rattle.binding.specs.declared.bound.Bound.{Bound}
 use Rattle.binding.specs.declared.bound.Found.{Found}
 use Rattle.binding.specs.declared.question.Question.TheVariants.{Reaches}
 use Rattle.binding.specs.Bounds.{allowed, bounds_of, least_of, together}
 use Rattle.binding.specs.Questions.{first}
+
+-- the sheets of a path's samples, in memories that may have more cells
+abbrev pub sheets_on : Path → List (Cell Class) → List (Cell Speed) → Sheets
+sheets_on path classes speeds = sheets_of (take path.header.samples classes) (take path.header.samples speeds)
 
 -- is there such a sample? Of squared speeds its class is asked for too
 abbrev pub inside : Sheets → Make → ℕ → Bool

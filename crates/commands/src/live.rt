@@ -23,6 +23,7 @@ impl Live<'_> {
     // One call, under the frame's own limits.
     pub fn call(&mut self, call: Call) -> Answer
         ensures does { Does (class_number (path_of self.old.frame.bytes.now)) (speed_number (path_of self.old.frame.bytes.now)) call (held self.old.job self.old.classes.items self.old.speeds.items) (held self.new.job self.new.classes.items self.new.speeds.items) result }
+        ensures frame { self.new.frame.bytes.now ≡ self.old.frame.bytes.now }
         ensures law { Lawful (class_number (path_of self.old.frame.bytes.now)) (speed_number (path_of self.old.frame.bytes.now)) (call ∷ []) (held self.old.job self.old.classes.items self.old.speeds.items) (held self.new.job self.new.classes.items self.new.speeds.items) }
     {
         planner::call(

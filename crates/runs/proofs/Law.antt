@@ -9,7 +9,7 @@ use Rattle.runs.specs.InForce.{in_force}
 use Rattle.runs.specs.Keeping.{Greatest, own, bounds_in}
 use Rattle.runs.specs.Runs.{after}
 use Rattle.runs.specs.Law.{RunsLawful}
-use Rattle.runs.proofs.Runs.{run_settled, run_impossible, run_found, run_holds, run_ends, run_spends}
+use Rattle.runs.proofs.Runs.{run_settled, run_impossible, run_found, run_holds, run_between, run_above, run_ends, run_spends}
 use Rattle.runs.proofs.Calling.{look_shows}
 use Rattle.runs.proofs.Alike.{greatest_same, runs_alike}
 
@@ -26,6 +26,8 @@ runs_lawful σ law s start cs = record {
   impossible = run_impossible σ law s start cs;
   found = run_found σ law s start cs;
   holds = run_holds σ law s start cs;
+  between = run_between σ law s start cs;
+  above = run_above σ law s start cs;
   held = run_held σ law s start cs;
   ends = run_ends σ law s start cs;
   spends = λ before k p last. run_spends σ law s start before k p;

@@ -1,5 +1,5 @@
 -- What holds after a sequence of calls, from the invariant.
-use Rattle.std.proofs.Common.{◌≡◌, ℕ, ◌<◌, ◌≤◌, ◌⊎◌, List, [], ◌∷◌, ◌++◌, Ok, sym, refl, ◌∙◌, subst, arith}
+use Rattle.std.proofs.Common.{◌≡◌, ℕ, ◌<◌, ◌≤◌, ◌⊎◌, List, [], ◌∷◌, ◌++◌, Ok, true, sym, refl, ◌∙◌, subst, arith}
 use Rattle.runs.specs.declared.stage.Make.{Make}
 use Rattle.runs.specs.declared.stage.Make.TheVariants.{Classes, Speeds}
 use Rattle.runs.specs.declared.stage.Stage.TheVariants.{Settled, Impossible}
@@ -8,18 +8,19 @@ use Rattle.runs.specs.declared.call.Call.{Call}
 use Rattle.runs.specs.declared.call.Call.TheVariants.{Advance}
 use Rattle.runs.specs.declared.reply.Progress.{Progress}
 use Rattle.runs.specs.declared.reply.Reply.TheVariants.{Advanced}
+use Rattle.grade.specs.Profiles.{rank, AtMost}
 use Rattle.limit.specs.Numbers.{KeptAt}
 use Rattle.runs.specs.Settings.{Setting, SettingLaw}
 use Rattle.runs.specs.Sheets.{Sheets, sheet}
 use Rattle.runs.specs.Jobs.{Job}
 use Rattle.runs.specs.Making.{Start, StartLaw, made}
-use Rattle.runs.specs.Calls.{called, answered}
+use Rattle.runs.specs.Calls.{called, answered, is_possible}
 use Rattle.runs.specs.Runs.{run, after}
 use Rattle.runs.specs.InForce.{Bounds, given, in_force}
 use Rattle.runs.specs.Keeping.{Pair, KeepsAll, Greatest, own, bounds_in}
 use Rattle.runs.specs.Law.{Ended, SameBounds, enough}
 use Rattle.runs.proofs.Cells.{rank_values, length-values}
-use Rattle.runs.proofs.Standing.{Standing, Stands, Hopeless, Holding, standing_holds}
+use Rattle.runs.proofs.Standing.{Standing, Stands, Fitting, Hopeless, Holding, parts, standing_holds}
 use Rattle.runs.proofs.Making.{made_stands}
 use Rattle.runs.proofs.Calling.{run_stands}
 use Rattle.runs.proofs.Ending.{advance_ends, advance_spends}
@@ -77,6 +78,23 @@ module _ (σ : Setting) (law : SettingLaw σ) (s : Start) (start : StartLaw σ s
   run_holds cs =
       let j : Job = after σ s cs in
       (standing_holds σ (in_force σ s cs) j.stage j.sweep j.sheets (stands cs)).bounds
+
+  fitting : (cs : List Call) → is_possible (after σ s cs).stage ≡ true → Fitting σ (in_force σ s cs) (after σ s cs).sheets
+  fitting cs p = let j : Job = after σ s cs in (parts σ (in_force σ s cs) j.stage j.sweep j.sheets p (stands cs)).0
+
+  pub run_between : (cs : List Call) → is_possible (after σ s cs).stage ≡ true → (m : Make) (i : ℕ) → i < σ.samples
+      → ((in_force σ s cs).floor m i ≤ rank (own (after σ s cs).sheets m) i) × (rank (own (after σ s cs).sheets m) i ≤ (in_force σ s cs).cap m i)
+  run_between cs p m i h =
+      let c = (fitting cs p).each m i h in
+      let cap = c.cap_is in
+      let floor = c.floor_is in
+      let low = c.floored in
+      let high = c.capped in
+      rw rank_values (omega arith, omega arith)
+
+  pub run_above : (cs : List Call) → is_possible (after σ s cs).stage ≡ true → (P : Pair) → KeepsAll σ (in_force σ s cs) P
+      → (m : Make) → AtMost (P m) (own (after σ s cs).sheets m)
+  run_above cs p P k m i h = rw rank_values (((fitting cs p).each m i (rw (k.long m) at h)).covers P k)
 
   pub run_ends : (cs before : List Call) (k : ℕ) → cs ≡ before ++ (Advance k ∷ []) → enough σ (after σ s before).sheets ≤ k → Ended (after σ s cs).stage
   run_ends cs before k last h =

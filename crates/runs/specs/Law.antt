@@ -1,5 +1,5 @@
 -- The law of the job: what is true after every sequence of calls, said of the start and the calls alone.
-use Rattle.std.specs.Prelude.{◌≡◌, ℕ, ◌+◌, ◌*◌, ◌<◌, ◌≤◌, ◌⊎◌, List, [], ◌∷◌, ◌++◌, sum, ◌≢◌, Ok}
+use Rattle.std.specs.Prelude.{◌≡◌, ℕ, ◌+◌, ◌*◌, ◌<◌, ◌≤◌, ◌⊎◌, List, [], ◌∷◌, ◌++◌, sum, ◌≢◌, true, Ok}
 use Rattle.runs.specs.declared.stage.Make.{Make}
 use Rattle.runs.specs.declared.stage.Make.TheVariants.{Classes, Speeds}
 use Rattle.runs.specs.declared.stage.Stage.{Stage}
@@ -8,12 +8,12 @@ use Rattle.runs.specs.declared.call.Call.{Call}
 use Rattle.runs.specs.declared.call.Call.TheVariants.{Advance, Look}
 use Rattle.runs.specs.declared.reply.Progress.{Progress}
 use Rattle.runs.specs.declared.reply.Reply.TheVariants.{Advanced, Seen}
-use Rattle.grade.specs.Profiles.{rank}
+use Rattle.grade.specs.Profiles.{rank, AtMost}
 use Rattle.runs.specs.Settings.{Setting, SettingLaw}
 use Rattle.runs.specs.Sheets.{Sheets}
 use Rattle.runs.specs.Jobs.{Job}
 use Rattle.runs.specs.Making.{Start, StartLaw}
-use Rattle.runs.specs.Calls.{answered}
+use Rattle.runs.specs.Calls.{answered, is_possible}
 use Rattle.runs.specs.Runs.{after}
 use Rattle.runs.specs.InForce.{Bounds, in_force}
 use Rattle.runs.specs.Keeping.{Pair, KeepsAll, Greatest, own, bounds_in}
@@ -46,6 +46,11 @@ pub record RunLaw (σ : Setting) (s : Start) (cs : List Call) (j : Job) : Type 0
   pub found : (i : ℕ) → j.stage ≡ Impossible i → i < σ.samples
   -- the caps and floors in its cells are those in force, at every stage
   pub holds : SameBounds σ (in_force σ s cs) (bounds_in j.sheets)
+  -- as long as it is not impossible, each value lies between floor and cap, and no pair that keeps everything in force is anywhere
+  -- above its own pair
+  pub between : is_possible j.stage ≡ true → (m : Make) (i : ℕ) → i < σ.samples
+      → ((in_force σ s cs).floor m i ≤ rank (own j.sheets m) i) × (rank (own j.sheets m) i ≤ (in_force σ s cs).cap m i)
+  pub above : is_possible j.stage ≡ true → (P : Pair) → KeepsAll σ (in_force σ s cs) P → (m : Make) → AtMost (P m) (own j.sheets m)
   -- so a settled job's own pair is the greatest under the caps and floors of its cells too
   pub held : j.stage ≡ Settled → Greatest σ (bounds_in j.sheets) (own j.sheets)
   -- a last advance whose allowance was enough, by the sums where it began, has ended the work

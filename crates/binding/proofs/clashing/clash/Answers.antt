@@ -1,14 +1,32 @@
-use Rattle.std.proofs.Common.{ap}
+use Rattle.std.proofs.Common.{List, take, ap, subst}
+use Rattle.grade.specs.declared.cell.Cell.{Cell}
+use Rattle.grade.specs.declared.class.Class.{Class}
+use Rattle.grade.specs.declared.speed.Speed.{Speed}
 use Rattle.frame.specs.Views.{path_of}
+use Rattle.job.specs.Whole.{sheets_of}
+use Rattle.binding.specs.Clashing.{Clashes}
 use Rattle.binding.proofs.Laws.{no_clash_there, clash_there}
 use Rattle.binding.proofs.clashing.clash.Goals as goal
 
 pub returns-in_err-place : goal.returns-in_err-place
-returns-in_err-place c = no_clash_there (path_of c.args.frame.bytes.now) c.args.classes.now c.args.speeds.now c.args.at c.from_residual.result c.from_residual.ensures c.in_err-place.ensures
+returns-in_err-place c =
+    let path = path_of c.args.frame.bytes.now in
+    let cs : List (Cell Class) = c.of_samples-classes_of_path.result.now in
+    let ss : List (Cell Speed) = c.of_samples-speeds_of_path.result.now in
+    let r = c.from_residual.result in
+    subst (λ (x : List (Cell Class)). Clashes path (sheets_of x (take path.header.samples c.args.speeds.now)) c.args.at r) c.of_samples-classes_of_path.ensures
+    (subst (λ (x : List (Cell Speed)). Clashes path (sheets_of cs x) c.args.at r) c.of_samples-speeds_of_path.ensures
+    (no_clash_there path cs ss c.args.at r c.from_residual.ensures c.in_err-place.ensures))
 
 pub returns : goal.returns
 returns c =
+    let path = path_of c.args.frame.bytes.now in
+    let cs : List (Cell Class) = c.of_samples-classes_of_path.result.now in
+    let ss : List (Cell Speed) = c.of_samples-speeds_of_path.result.now in
     let p = c.in_ok-place.place in
     let q = p.of_class in
     let f = c.in_ok-place.ensures in
-    clash_there (path_of c.args.frame.bytes.now) c.args.classes.now c.args.speeds.now c.args.at (path_of q.frame.bytes.now) q.classes.now p.speeds.now q.at (ap path_of f.0) f.1 f.2 f.3 q.there p.there c.first_clash.result c.first_clash.ensures
+    let r = c.first_clash.result in
+    subst (λ (x : List (Cell Class)). Clashes path (sheets_of x (take path.header.samples c.args.speeds.now)) c.args.at r) c.of_samples-classes_of_path.ensures
+    (subst (λ (x : List (Cell Speed)). Clashes path (sheets_of cs x) c.args.at r) c.of_samples-speeds_of_path.ensures
+    (clash_there path cs ss c.args.at (path_of q.frame.bytes.now) q.classes.now p.speeds.now q.at (ap path_of f.0) f.1 f.2 f.3 q.there p.there r c.first_clash.ensures))
