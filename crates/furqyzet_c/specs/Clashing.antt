@@ -13,7 +13,8 @@ use Rattle.runs.specs.Sheets.{Sheets}
 use Rattle.binding.specs.declared.bound.Clash.{Clash}
 use Rattle.binding.specs.Clashing.{Clashes}
 use Rattle.furqyzet_c.specs.declared.clashing.ClashWords.{ClashWords}
-use Rattle.furqyzet_c.specs.Naming.{bound_number, sheets_in}
+use Rattle.binding.specs.Binding.{sheets_on}
+use Rattle.furqyzet_c.specs.Naming.{bound_number}
 
 abbrev pub make_number : Make → ℕ
 make_number Classes = 0
@@ -34,7 +35,7 @@ ClashesFor p S i x = (r : Option Clash) × Clashes p S i r × (x ≡ clash_words
 -- where a memory is too short for the path's samples, nothing is found
 pub record ClashesOf (p : Path) (cs : List (Cell Class)) (ss : List (Cell Speed)) (i : ℕ) (x : ClashWords) : Type 0 where
   pub short : (length cs < p.header.samples) ⊎ (length ss < p.header.samples) → x ≡ clash_words None
-  pub found : p.header.samples ≤ length cs → p.header.samples ≤ length ss → ClashesFor p (sheets_in p cs ss) i x
+  pub found : p.header.samples ≤ length cs → p.header.samples ≤ length ss → ClashesFor p (sheets_on p cs ss) i x
 
 abbrev pub ClashesUnder : List ℕ → Result Header FrameFault → List (Cell Class) → List (Cell Speed) → ℕ → ClashWords → Type 0
 ClashesUnder bs (Err f) cs ss i x = x ≡ clash_words None

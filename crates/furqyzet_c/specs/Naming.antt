@@ -1,5 +1,5 @@
 -- What holds a sample's value, as C sees it.
-use Rattle.std.specs.Prelude.{◌≡◌, ℕ, ◌+◌, ◌<◌, ◌≤◌, ◌⊎◌, min, List, length, take, Some, None, Ok, Err, Option, Result}
+use Rattle.std.specs.Prelude.{◌≡◌, ℕ, ◌+◌, ◌<◌, ◌≤◌, ◌⊎◌, min, List, length, Some, None, Ok, Err, Option, Result}
 use Rattle.grade.specs.declared.cell.Cell.{Cell}
 use Rattle.grade.specs.declared.class.Class.{Class}
 use Rattle.grade.specs.declared.speed.Speed.{Speed}
@@ -9,10 +9,9 @@ use Rattle.frame.specs.Paths.{Path, header_of, path_read}
 use Rattle.frame.specs.Views.{path_of}
 use Rattle.runs.specs.declared.stage.Make.{Make}
 use Rattle.runs.specs.Sheets.{Sheets}
-use Rattle.job.specs.Whole.{sheets_of}
 use Rattle.binding.specs.declared.bound.Bound.{Bound}
 use Rattle.binding.specs.declared.bound.Bound.TheVariants as bound
-use Rattle.binding.specs.Binding.{Binds}
+use Rattle.binding.specs.Binding.{Binds, sheets_on}
 use Rattle.furqyzet_c.specs.Calls.{make_in}
 
 -- a row's number at most the greatest of 32 bits
@@ -32,14 +31,10 @@ abbrev pub BindsFor : Path → Option Make → Sheets → ℕ → ℕ → Type 0
 BindsFor p None S i k = k ≡ 0
 BindsFor p (Some m) S i k = (r : Option Bound) × Binds p S m i r × (k ≡ number_of r)
 
--- the sheets of a path's samples, at the front of the memories
-abbrev pub sheets_in : Path → List (Cell Class) → List (Cell Speed) → Sheets
-sheets_in p cs ss = sheets_of (take p.header.samples cs) (take p.header.samples ss)
-
 -- where a memory is too short for the path's samples, nothing is found
 pub record BindsOf (p : Path) (m : Option Make) (cs : List (Cell Class)) (ss : List (Cell Speed)) (i k : ℕ) : Type 0 where
   pub short : (length cs < p.header.samples) ⊎ (length ss < p.header.samples) → k ≡ 0
-  pub found : p.header.samples ≤ length cs → p.header.samples ≤ length ss → BindsFor p m (sheets_in p cs ss) i k
+  pub found : p.header.samples ≤ length cs → p.header.samples ≤ length ss → BindsFor p m (sheets_on p cs ss) i k
 
 abbrev pub BindsUnder : List ℕ → Result Header FrameFault → (make : ℕ) → List (Cell Class) → List (Cell Speed) → ℕ → ℕ → Type 0
 BindsUnder bs (Err f) make cs ss i k = k ≡ 0

@@ -80,7 +80,7 @@ fn clash_of(
     if classes.len() < n || speeds.len() < n {
         return clash_words(None);
     }
-    clash_words(clash(frame, &classes[..n], &speeds[..n], sample as usize))
+    clash_words(clash(frame, classes, speeds, sample as usize))
 }
 
 // The same of a frame that is read first.

@@ -2,7 +2,7 @@
 ghost use Rattle.std.specs.Prelude.{◌≡◌};
 ghost use Rattle.furqyzet_c.specs.Cells.{class_cells_of, speed_cells_of};
 ghost use Rattle.frame.specs.Views.{path_of};
-ghost use Rattle.job.specs.Whole.{sheets_of};
+ghost use Rattle.binding.specs.Binding.{sheets_on};
 ghost use Rattle.furqyzet_c.specs.Calls.{make_in};
 ghost use Rattle.furqyzet_c.specs.Naming.{bound_number, number_of, BindsFor, BindsOf, BindsWords};
 
@@ -50,7 +50,7 @@ fn bound_for(
     make: u8,
     sample: u64,
 ) -> u32
-    ensures { BindsFor (path_of frame.entry.bytes.now) (make_in make) (sheets_of classes.now speeds.now) sample result }
+    ensures { BindsFor (path_of frame.entry.bytes.now) (make_in make) (sheets_on (path_of frame.entry.bytes.now) classes.now speeds.now) sample result }
 {
     let at = sample as usize;
     match make_in(make) {
@@ -74,7 +74,7 @@ fn bound_of(
     if classes.len() < n || speeds.len() < n {
         return NO_BOUND;
     }
-    bound_for(frame, &classes[..n], &speeds[..n], make, sample)
+    bound_for(frame, classes, speeds, make, sample)
 }
 
 // The same of a frame that is read first.
