@@ -74,8 +74,20 @@ fn allowance(random: &Random, job: &Job, path: &Path, budget: u64) -> u64 {
     }
 }
 
-/// The next call, and what the caller ought to say of it: one in forty is of a kind or a make that there isn't.
+/// A cut below a floor that leaves a speed at the top.
+fn cut_below_the_top(job: &Job) -> Option<Call> {
+    let speeds = job.speeds.values().iter().zip(&job.speeds.floors);
+    let sample = speeds.into_iter().position(|(&value, &floor)| value == outside::SPEED_TOP && floor > 0)?;
+    Some(Call { sample: sample as u64, value: u64::from(job.speeds.floors[sample]) - 1, kind: CUT, make: 1 })
+}
+
+/// The next call: one in forty is of a kind or a make that there isn't.
 pub fn call(random: &Random, job: &Job, path: &Path, budget: u64) -> Call {
+    if random.percent(2)
+        && let Some(call) = cut_below_the_top(job)
+    {
+        return call;
+    }
     let sample = sample(random, job.samples());
     let make = random.up_to(1) as u8;
     let kind = random.pick(&[ADVANCE, ADVANCE, ADVANCE, CUT, CUT, CUT, LIFT, LOOK]);
