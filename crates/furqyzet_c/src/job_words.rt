@@ -135,6 +135,6 @@ impl JobWords {
     pub(crate) fn job(self) -> Option<Job>
         ensures { Reads self result }
     {
-        Job::from_parts(self.parts()?)
+        unsafe { Job::from_parts(self.parts()?) }
     }
 }

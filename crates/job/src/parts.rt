@@ -26,8 +26,9 @@ impl Job {
     }
 
     // The job that has these parts, or nothing where none has them: fewer than 2 or more than 4096 samples, or a sweep with no
-    // sample to visit.
-    pub fn from_parts(parts: Parts) -> Option<Job>
+    // sample to visit. Unsafe, though it harms no memory: with it a job could be called that was released, and one released that
+    // never settled. Who calls it vouches that the parts are those of a job that is kept as such and nowhere else.
+    pub unsafe fn from_parts(parts: Parts) -> Option<Job>
         ensures has { MatchOption result (are_parts parts ≡ false) (λ j. parts_of j ≡ parts) }
         ensures again { (j : Job) → parts_of j ≡ parts → result ≡ Some j }
     {
