@@ -69,7 +69,11 @@ fn clauses_and_layers_in_words(rt: HostRuntime) -> Result<(), Fail> {
         said.as_str(),
         "bend, at most 1.5 m/s, curvature -0.25 1/m, fixed at 7"
     );
+    let said = format!(in heap; "{}, {}", CapClause::Free, CapClause::Straight(2.5))?;
+    assert_eq!(rt; said.as_str(), "free, straight, at most 2.5 m/s");
     let said = format!(in heap; "{} {}", Layer::Torque, Layer::Memory)?;
     assert_eq!(rt; said.as_str(), "torque memory");
+    let said = format!(in heap; "{} {} {}", Layer::Frame, Layer::Sample, Layer::Gap)?;
+    assert_eq!(rt; said.as_str(), "frame sample gap");
     Ok(())
 }
