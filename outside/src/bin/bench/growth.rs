@@ -1,17 +1,18 @@
-//! How evaluations to settle grow with the samples, for three families of paths.
+//! How evaluations to settle grow with the samples, for four families of paths.
 
-use crate::paths::{flat, staircase, valley};
+use crate::paths::{deep_valley, flat, staircase, valley};
 use crate::speed::agree;
 use outside::Path;
 
 const SIZES: [usize; 6] = [5, 16, 64, 256, 1024, 4096];
 /// Work that needs more is not waited for.
-const MOST: u64 = 2_000_000_000;
+const MOST: u64 = 300_000_000;
 
 /// A family: its name, and its path of so many samples.
 type Family = (&'static str, fn(usize) -> Vec<u8>);
 
-const FAMILIES: [Family; 3] = [("flat, fixed ends", flat), ("staircase", staircase), ("averaging valley", valley)];
+const FAMILIES: [Family; 4] =
+    [("flat, fixed ends", flat), ("staircase", staircase), ("averaging valley", valley), ("valley without ramps", deep_valley)];
 
 pub fn table() {
     println!("\nEvaluations until settled (and for each sample)");

@@ -1,4 +1,5 @@
-//! Measures the static library against this planner, on the same inputs, in one run.
+//! Measures the static library against this planner, on the same inputs, in one run: `bench [FRAME ..]`, with frames those
+//! alone.
 
 // of the library's calls not all are measured
 #[allow(dead_code)]
@@ -11,6 +12,10 @@ mod paths;
 mod speed;
 
 fn main() {
+    let frames: Vec<String> = std::env::args().skip(1).collect();
+    if !frames.is_empty() {
+        return speed::of_files(&frames);
+    }
     speed::evaluations();
     speed::reading();
     growth::table();

@@ -5,7 +5,7 @@ use crate::paths::{Kind, random};
 use crate::speed::made;
 use std::hint::black_box;
 
-const SAMPLES: usize = 4096;
+const SIZES: [usize; 2] = [64, 4096];
 const PAINTED: usize = 512 * 1024;
 const STACK: usize = 4 * PAINTED;
 /// Between the painter's own frame and what it paints.
@@ -47,10 +47,23 @@ fn stack(call: impl FnOnce() + Send) -> usize {
 }
 
 fn cut(work: &mut Work, frame: &[u8]) {
-    let call = Call { sample: SAMPLES as u64 / 2, value: 0, kind: CUT, make: SPEEDS };
+    let call = Call { sample: work.speeds.len() as u64 / 2, value: 0, kind: CUT, make: SPEEDS };
     let mut answers = [Answer::default()];
     assert_eq!(work.run(frame, &[call], &mut answers).number, 0);
     assert_eq!(answers[0].number, 0);
+}
+
+/// The stack of nothing, of a making, an advance, a cut and setpoints, on a path of so many samples.
+fn stacks(n: usize) -> [usize; 5] {
+    let frame = random(Kind::Torque, n);
+    let mut work = made(&frame, n);
+    let nothing = stack(|| {});
+    let make = stack(|| assert_eq!(work.make(&frame).number, 0));
+    let advance = stack(|| assert_eq!(work.advance(&frame, u64::MAX).number, 0));
+    let cut = stack(|| cut(&mut work, &frame));
+    work.advance(&frame, u64::MAX);
+    let mut setpoints = vec![0; 7 + 3 * n];
+    [nothing, make, advance, cut, stack(|| assert_ne!(work.setpoints(&mut setpoints).0, 0))]
 }
 
 pub fn table() {
@@ -60,14 +73,10 @@ pub fn table() {
         class + speed,
         size_of::<Job>()
     );
-    let frame = random(Kind::Torque, SAMPLES);
-    let mut work = made(&frame, SAMPLES);
-    println!("Stack used at most, bytes, of which up to {MARGIN} are the measurement's own ({SAMPLES} samples, two rows a gap):");
-    println!("  nothing    {:>6}", stack(|| {}));
-    println!("  make       {:>6}", stack(|| assert_eq!(work.make(&frame).number, 0)));
-    println!("  advance    {:>6}", stack(|| assert_eq!(work.advance(&frame, u64::MAX).number, 0)));
-    println!("  a cut      {:>6}", stack(|| cut(&mut work, &frame)));
-    work.advance(&frame, u64::MAX);
-    let mut setpoints = vec![0; 7 + 3 * SAMPLES];
-    println!("  setpoints  {:>6}", stack(|| assert_ne!(work.setpoints(&mut setpoints).0, 0)));
+    println!("Stack used at most, bytes, of which up to {MARGIN} are the measurement's own (two rows a gap)");
+    println!("{:>6} {:>8} {:>8} {:>8} {:>8} {:>10}", "n", "nothing", "make", "advance", "a cut", "setpoints");
+    for n in SIZES {
+        let [nothing, make, advance, cut, setpoints] = stacks(n);
+        println!("{n:>6} {nothing:>8} {make:>8} {advance:>8} {cut:>8} {setpoints:>10}");
+    }
 }

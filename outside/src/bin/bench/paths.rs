@@ -93,6 +93,12 @@ pub fn valley(n: usize) -> Vec<u8> {
     frame(samples.collect(), vec![Gap { rise: 1, fall: 1, up: 10_000, down: 10_000 }; n - 1], Vec::new())
 }
 
+/// The same valley with no ramp that holds it up: averages alone bring it down, from the top.
+pub fn deep_valley(n: usize) -> Vec<u8> {
+    let samples = (0..n).map(|i| sample(if is_end(i, n) { 0 } else { SPEED_TOP }, CLASS_TOP, end_or(i, n, 4000)));
+    frame(samples.collect(), vec![Gap { rise: 7, fall: 7, up: SPEED_TOP, down: SPEED_TOP }; n - 1], Vec::new())
+}
+
 fn end_or(i: usize, n: usize, offset: i32) -> i32 {
     if is_end(i, n) { 0 } else { offset }
 }

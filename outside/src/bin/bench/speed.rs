@@ -67,23 +67,36 @@ fn row(frame: &[u8]) -> [f64; 3] {
     [median(library), median(ours), median(ratios)]
 }
 
-pub fn evaluations() {
-    println!("\nEvaluations: nanoseconds each, medians of {ROUNDS} rounds; evaluations a second, millions");
+fn heading() {
+    println!("\nEvaluations: nanoseconds each, medians of {ROUNDS} rounds, and the median of the rounds' ratios");
     println!(
-        "{:<24} {:>6} {:>11} {:>11} {:>7} {:>11} {:>11} {:>7}",
-        "limits", "n", "evaluations", "lowerings", "library", "outside", "library M/s", "ratio"
+        "{:<24} {:>6} {:>11} {:>9} {:>7} {:>11} {:>8} {:>5}",
+        "limits", "n", "evaluations", "lowerings", "library", "million/s", "outside", "ratio"
     );
+}
+
+fn print_row(name: &str, frame: &[u8]) {
+    let path = Path::read(frame).expect("a good frame");
+    let (evaluations, lowerings) = agree(frame, &path, HUGE);
+    let [library, ours, ratio] = row(frame);
+    let n = path.samples.len();
+    let a_second = 1000.0 / library;
+    println!("{name:<24} {n:>6} {evaluations:>11} {lowerings:>9} {library:>7.2} {a_second:>11.1} {ours:>8.2} {ratio:>5.2}");
+}
+
+pub fn evaluations() {
+    heading();
     for (kind, name) in KINDS {
-        for n in SIZES {
-            let frame = random(kind, n);
-            let path = Path::read(&frame).expect("a good frame");
-            let (evaluations, lowerings) = agree(&frame, &path, HUGE);
-            let [library, ours, ratio] = row(&frame);
-            println!(
-                "{name:<24} {n:>6} {evaluations:>11} {lowerings:>11} {library:>7.2} {ours:>11.2} {:>11.1} {ratio:>7.2}",
-                1000.0 / library
-            );
-        }
+        SIZES.iter().for_each(|&n| print_row(name, &random(kind, n)));
+    }
+}
+
+/// The frames of these files.
+pub fn of_files(files: &[String]) {
+    heading();
+    for file in files {
+        let frame = std::fs::read(file).unwrap_or_else(|error| panic!("{file}: {error}"));
+        print_row(file.rsplit('/').next().unwrap_or(file), &frame);
     }
 }
 
