@@ -2,6 +2,10 @@
 //
 // At each time there is no job, a job at hand or a spent one. Lines about the frame and `make` mean the same at all
 // times; what a call on the job means is for the handler of that time to say. A done `make` throws away the job before it.
+ghost use Rattle.std.specs.Prelude.{◌≡◌, Some, None, replicate, IfOk};
+ghost use Rattle.commands.specs.declared.made.Made.{Made};
+ghost use Rattle.commands.specs.declared.replaying.Next.TheVariants as ended;
+
 use super::answering::print_made;
 use super::handlers::{NoJob, with_job};
 use super::made::Made;
@@ -66,7 +70,10 @@ pub fn replay(rt: &HostRuntime, path: &str) -> Result<(), Stop> {
 }
 
 // The job that was made, of a handler that never parts from its own.
-pub fn only_made(next: Option<Next<Infallible>>) -> Option<Made> {
+pub fn only_made(next: Option<Next<Infallible>>) -> Option<Made>
+    ensures made { (job : Made) → next ≡ Some (ended.Made job) → result ≡ Some job }
+    ensures none { next ≡ None → result ≡ None }
+{
     match next? {
         Next::Made(made) => Some(made),
         Next::Parted(never) => match never {},
@@ -146,7 +153,9 @@ fn take_frame(rt: &HostRuntime, file: &str) -> Result<Vec<u8>, Stop> {
 }
 
 // Memory for bytes, as a script asks for it.
-pub fn lend(rt: &HostRuntime, length: u64) -> Result<Vec<u8>, Stop> {
+pub fn lend(rt: &HostRuntime, length: u64) -> Result<Vec<u8>, Stop>
+    ensures { IfOk result (λ memory. memory.items ≡ replicate length 165) }
+{
     if length > MOST_BYTES {
         return Err(complain(rt, "a script's memory has at most 1073741824 bytes"));
     }
