@@ -2,7 +2,7 @@
 // that has them ready gives them as they lie; elsewhere they are looked for and worked out.
 ghost use Rattle.std.specs.Prelude.{◌≡◌, ℕ, ◌<◌, ◌≤◌, length};
 ghost use Rattle.torque.specs.Rows.{row_at};
-ghost use Rattle.motion.specs.Torques.{on_right_of, on_left_of};
+ghost use Rattle.motion.specs.Torques.{Fit, on_right_of, on_left_of};
 
 use super::rows::Rows;
 use super::searching::first_from;
@@ -29,7 +29,8 @@ pub trait Sides: Rows {
     // The inequality of a row that bounds the sample after its gap.
     fn on_right(&self, at: usize) -> Triple
         requires { at < length (Self.rows self.now) }
-        ensures { result ≡ on_right_of (Self.spacing self.now) (row_at (Self.rows self.now) at) }
+        ensures is { result ≡ on_right_of (Self.spacing self.now) (row_at (Self.rows self.now) at) }
+        ensures fits { Fit result }
     {
         SpacedRow {
             h: self.spacing(),
@@ -41,7 +42,8 @@ pub trait Sides: Rows {
     // The inequality of a row that bounds the sample before its gap.
     fn on_left(&self, at: usize) -> Triple
         requires { at < length (Self.rows self.now) }
-        ensures { result ≡ on_left_of (Self.spacing self.now) (row_at (Self.rows self.now) at) }
+        ensures is { result ≡ on_left_of (Self.spacing self.now) (row_at (Self.rows self.now) at) }
+        ensures fits { Fit result }
     {
         SpacedRow {
             h: self.spacing(),
