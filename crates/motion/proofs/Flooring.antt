@@ -18,9 +18,6 @@ module _ (f most : ℕ) (n : ℕ) (some : 0 < f) (top : most ≤ speed_top) wher
       let c : (most ≤ n / f → ⊥) = λ l. let a = (under_floored f (pos n) most some top).0 (omega (arith, ints, clamps)) in omega (arith, ints) in
       omega arith
 
-  falls : n < f * most → pos (n / f) ≡ int_min (pos most) (floored f (pos n))
-  falls h = let l = lower_quotient h in omega (arith, ints, clamps)
-
 pub le_true : (a b : ℤ) → int_le a b ≡ true → a ≤ℤ b
 le_true a b h = omega (arith, ints)
 
@@ -46,9 +43,11 @@ module _ (f : ℕ) (some : 0 < f) where
   stays_at (pos m) (negsuc n) low high h = omega (arith, ints, clamps)
   stays_at (negsuc m) n low high h = let l = floored_low f n in omega (arith, ints, clamps)
 
-  pub falls_to : (most n : ℤ) → negsuc 0 ≤ℤ most → most ≤ℤ pos speed_top → int_lt n (pos 0) ≡ false → ((pos f *ℤ most) ≤ℤ n → ⊥) → pos (nat_abs n / f) ≡ int_min most (floored f n)
-  falls_to (pos m) (pos n) low high some_room h =
+  -- the number does not stay, so an answer that is the floor as far as the top is the lesser of the two
+  pub falls_to : (most n r : ℤ) → negsuc 0 ≤ℤ most → most ≤ℤ pos speed_top → ((pos f *ℤ most) ≤ℤ n → ⊥) → int_min (pos speed_top) r ≡ floored f n → r ≡ int_min most (floored f n)
+  falls_to (pos m) (pos n) r low high h e =
       let c : (f * m ≤ n → ⊥) = λ l. h (omega (arith, ints)) in
-      falls f m n some (omega (arith, ints)) (omega arith)
-  falls_to (negsuc m) (pos n) low high some_room h = absurd (h (omega (arith, ints)))
-  falls_to most (negsuc n) low high some_room h = omega (arith, ints)
+      let l = lower_quotient f m n some (omega (arith, ints)) (omega arith) in
+      omega (arith, ints, clamps)
+  falls_to (negsuc m) (pos n) r low high h e = absurd (h (omega (arith, ints)))
+  falls_to most (negsuc n) r low high h e = omega (arith, ints, clamps)

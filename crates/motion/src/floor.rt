@@ -32,7 +32,18 @@ pub(crate) fn floor_within(factor: u32, n: i64, most: i64) -> i64
 {
     if factor as i64 * most <= n {
         most
-    } else if n < 0 {
+    } else {
+        floor_number(factor, n)
+    }
+}
+
+// The greatest g with factor × g ≤ n, as high as it may be, −1 where n is negative.
+#[inline(always)]
+pub(crate) fn floor_number(factor: u32, n: i64) -> i64
+    requires { 1 ≤ factor }
+    ensures { int_min (pos speed_top) result ≡ floored factor n }
+{
+    if n < 0 {
         NOTHING
     } else {
         (n as u64 / factor as u64) as i64

@@ -19,7 +19,8 @@ pub struct Run {
 }
 
 // Visits at most so many samples. The two ways apart, each with its direction written out: a compiler makes of each a loop
-// of its own.
+// of its own, and no part of what calls it, so that it has the registers for itself.
+#[inline(never)]
 pub fn sweep_on<G: Grade, L: Limit<G>>(
     cells: &mut [Cell<G>],
     limit: &L,
