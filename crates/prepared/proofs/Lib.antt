@@ -1,0 +1,4 @@
+pub mod Before
+pub mod Fills
+pub mod Known
+pub mod Listed

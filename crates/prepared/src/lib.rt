@@ -1,0 +1,13 @@
+// A frame's speed limit worked out once, in memory that the caller lends: what bounds each sample and each torque row as two
+// inequalities, in the byte order of the machine. A limit over it gives the numbers that the frame's own limit gives.
+#![tactic(auto)]
+
+mod bounds;
+mod filling;
+mod row_filling;
+mod sample_filling;
+mod view;
+
+pub use bounds::{RowBounds, SampleBounds};
+pub use filling::prepare;
+pub use view::Prepared;
