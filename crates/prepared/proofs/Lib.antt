@@ -2,3 +2,4 @@ pub mod Before
 pub mod Fills
 pub mod Known
 pub mod Listed
+pub mod Reading

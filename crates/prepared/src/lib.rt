@@ -4,8 +4,10 @@
 
 mod bounds;
 mod filling;
+mod offsets;
 mod row_filling;
 mod sample_filling;
+mod steps;
 mod view;
 
 pub use bounds::{RowBounds, SampleBounds};
