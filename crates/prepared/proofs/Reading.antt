@@ -1,18 +1,31 @@
 -- What a prepared frame's memory says of its path: the samples' bounds as a limit reads them.
-use Rattle.std.proofs.Common.{◌≡◌, ℕ, ◌+◌, ◌-◌, ◌<◌, ◌≤◌, true, cond, List, length, map, get_or, Fits, w64, ℤ, pos, nat_eq, sym, ap, ◌∙◌, arith}
+use Rattle.std.proofs.Math.Facts.{to_z-of_z}
+use Rattle.std.proofs.Common.{◌≡◌, ℕ, to_z, of_z, SFits, w32, ◌+◌, ◌-◌, ◌<◌, ◌≤◌, true, cond, List, length, map, get_or, Fits, w64, ℤ, pos, nat_eq, sym, ap, ◌∙◌, arith}
 use Rattle.std.proofs.lemmas.List.{length-map}
 use Rattle.std.proofs.lemmas.Bool.{ne_eqb, cond-false}
 use Rattle.record.specs.declared.sample.Sample.{Sample}
 use Rattle.motion.specs.declared.steps.Step.{Step}
 use Rattle.motion.specs.Ramps.{no_step}
-use Rattle.frame.specs.Paths.{accepted}
+use Rattle.motion.specs.declared.triple.Triple.{Triple}
+use Rattle.motion.specs.Torques.{on_left_of, on_right_of}
+use Rattle.torque.specs.Rows.{row_at}
+use Rattle.frame.specs.Paths.{Path, accepted}
 use Rattle.frame.specs.Views.{path_of}
 use Rattle.frame.proofs.Accepted.{yes'}
-use Rattle.sources.specs.Sources.{speed_step_of, speed_steps, offsets_of}
-use Rattle.sources.proofs.Counted.{samples_counted, gaps_counted}
+use Rattle.sources.specs.Sources.{speed_step_of, speed_steps, offsets_of, rows_of}
+use Rattle.sources.specs.Soundness.{rows_sound}
+use Rattle.sources.proofs.Counted.{samples_counted, gaps_counted, rows_counted}
 use Rattle.prepared.specs.declared.bounds.SampleBounds.{SampleBounds}
-use Rattle.prepared.specs.Lists.{up_to, bounds_at, sample_bounds_of}
-use Rattle.prepared.proofs.Listed.{length-sample_bounds_of, sample_bounds_at}
+use Rattle.prepared.specs.declared.bounds.RowBounds.{RowBounds}
+use Rattle.prepared.specs.Lists.{rows_before, up_to, bounds_at, sample_bounds_of, bounds_of_row, row_bounds_of}
+use Rattle.prepared.proofs.Before.{before_few, before_lower, before_upper}
+use Rattle.prepared.proofs.Listed.{length-sample_bounds_of, sample_bounds_at, length-row_bounds_of, row_bounds_at}
+
+abbrev pub right_triple : RowBounds → Triple
+right_triple b = record { own = b.after; near = b.before; constant = b.right }
+
+abbrev pub left_triple : RowBounds → Triple
+left_triple b = record { own = b.before; near = b.after; constant = b.left }
 
 module _ (bs : List ℕ) (e : accepted bs ≡ true) (xs : List SampleBounds) (is : xs ≡ sample_bounds_of (path_of bs)) where
   pub samples_many : length xs ≡ length (path_of bs).samples
@@ -20,6 +33,9 @@ module _ (bs : List ℕ) (e : accepted bs ≡ true) (xs : List SampleBounds) (is
 
   pub few : length xs ≤ 4096
   few = omega (arith, samples_many, samples_counted bs e, (yes' bs e).header.many)
+
+  pub few_rows : length (rows_of (path_of bs)) ≤ 8192
+  few_rows = omega (arith, rows_counted bs e, (yes' bs e).header.rowed)
 
   pub offsets_many : length xs ≡ length (offsets_of (path_of bs))
   offsets_many = samples_many ∙ sym (length-map (path_of bs).samples (λ (s : Sample). s.q))
@@ -46,3 +62,48 @@ module _ (bs : List ℕ) (e : accepted bs ≡ true) (xs : List SampleBounds) (is
       let w : (get_or xs i d).down ≡ (get_or (speed_steps (path_of bs)) i no_step).down = ap (λ (b : SampleBounds). b.down) (bounds_there i d (omega arith)) in
       let t : Step = get_or (speed_steps (path_of bs)) i no_step in
       ap (λ (k : ℕ). let s : Step = record { up = k; down = (get_or xs i d).down } in s) u ∙ ap (λ (k : ℕ). let s : Step = record { up = t.up; down = k } in s) w
+
+  -- ---- the first row at a gap
+
+  pub first_is : (g : ℕ) (d : SampleBounds) → g < length xs → (get_or xs g d).first_row ≡ rows_before g (rows_of (path_of bs))
+  first_is g d l = ap (λ (b : SampleBounds). b.first_row) (bounds_there g d l)
+
+  pub first_within : (g : ℕ) (d : SampleBounds) → g < length xs → (get_or xs g d).first_row ≤ length (rows_of (path_of bs))
+  first_within g d l = omega (arith, first_is g d l, before_few g (rows_of (path_of bs)))
+
+  pub first_before : (g : ℕ) (d : SampleBounds) → g < length xs → (k : ℕ) → k < (get_or xs g d).first_row → (row_at (rows_of (path_of bs)) k).gap < g
+  first_before g d l k m =
+      let rows = rows_of (path_of bs) in
+      let i = first_is g d l in
+      before_lower (path_of bs).header.spacing g rows (rows_sound bs e) k (omega (arith, before_few g rows)) (omega arith)
+
+  pub first_found : (g : ℕ) (d : SampleBounds) → g < length xs → (get_or xs g d).first_row < length (rows_of (path_of bs)) → g ≤ (row_at (rows_of (path_of bs)) (get_or xs g d).first_row).gap
+  first_found g d l m =
+      let rows = rows_of (path_of bs) in
+      let k = (get_or xs g d).first_row in
+      before_upper (path_of bs).header.spacing g rows (rows_sound bs e) k m (omega (arith, first_is g d l))
+
+-- ---- the two inequalities of a row
+
+module _ (p : Path) (ys : List RowBounds) (is : ys ≡ row_bounds_of p) where
+  pub rows_many : length ys ≡ length (rows_of p)
+  rows_many = ap length is ∙ length-row_bounds_of p
+
+  row_there : (k : ℕ) (d : RowBounds) → k < length (rows_of p) → get_or ys k d ≡ bounds_of_row p.header.spacing (row_at (rows_of p) k)
+  row_there k d l = ap (λ (zs : List RowBounds). get_or zs k d) is ∙ row_bounds_at p k d l
+
+  pub right_there : (k : ℕ) (d : RowBounds) → k < length (rows_of p) → right_triple (get_or ys k d) ≡ on_right_of p.header.spacing (row_at (rows_of p) k)
+  right_there k d l = ap right_triple (row_there k d l)
+
+  pub left_there : (k : ℕ) (d : RowBounds) → k < length (rows_of p) → left_triple (get_or ys k d) ≡ on_left_of p.header.spacing (row_at (rows_of p) k)
+  left_there k d l = ap left_triple (row_there k d l)
+
+-- a constant read from memory as it was written there
+pub right_kept : {b : RowBounds} {t : Triple} → SFits w64 b.right → right_triple b ≡ t → record { own = b.after; near = b.before; constant = to_z w64 (of_z w64 b.right) } ≡ t
+right_kept {b = b} f e = ap (λ (n : ℤ). let t : Triple = record { own = b.after; near = b.before; constant = n } in t) (to_z-of_z f) ∙ e
+
+pub left_kept : {b : RowBounds} {t : Triple} → SFits w64 b.left → left_triple b ≡ t → record { own = b.before; near = b.after; constant = to_z w64 (of_z w64 b.left) } ≡ t
+left_kept {b = b} f e = ap (λ (n : ℤ). let t : Triple = record { own = b.before; near = b.after; constant = n } in t) (to_z-of_z f) ∙ e
+
+pub offset_kept : {z q : ℤ} → SFits w32 z → z ≡ q → to_z w32 (of_z w32 z) ≡ q
+offset_kept f e = to_z-of_z f ∙ e

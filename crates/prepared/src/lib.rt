@@ -6,7 +6,9 @@ mod bounds;
 mod filling;
 mod offsets;
 mod row_filling;
+mod rows;
 mod sample_filling;
+mod sides;
 mod steps;
 mod view;
 
