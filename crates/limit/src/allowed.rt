@@ -1,21 +1,26 @@
-// What a limit allows a sample as far as some grade.
-ghost use Rattle.std.specs.Prelude.{◌≡◌, pos};
-ghost use Rattle.std.specs.Int.{int_min};
+// What a limit allows a sample as far as some number.
+ghost use Rattle.std.specs.Prelude.{◌≡◌};
 ghost use Rattle.limit.specs.Numbers.{number_of};
 
-use grade::{Grade, lower};
+use grade::Grade;
 
 #[derive(Clone, Copy, Debug, PartialEq, Eq)]
-pub struct Allowed<G> {
-    // Nothing where nothing fits.
-    pub grade: Option<G>,
+pub struct Allowed {
+    // The rank of a grade, or −1 where nothing fits.
+    pub number: i64,
     // Where the limit found what bounds the sample.
     pub near: usize,
 }
 
-// The lesser of a grade and an answer.
-pub(crate) fn lesser<G: Grade>(most: G, answer: Option<G>) -> Option<G>
-    ensures { number_of G.Grade.rank result ≡ int_min (pos (G.Grade.rank most)) (number_of G.Grade.rank answer) }
+// The number where nothing fits.
+pub const NOTHING: i64 = -1;
+
+// The number of an answer.
+pub(crate) fn number_of<G: Grade>(answer: Option<G>) -> i64
+    ensures { result ≡ number_of G.Grade.rank answer }
 {
-    Some(lower(most, answer?))
+    match answer {
+        Some(grade) => grade.rank() as i64,
+        None => NOTHING,
+    }
 }

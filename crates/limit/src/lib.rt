@@ -5,6 +5,6 @@ mod allowed;
 mod limit;
 mod pair;
 
-pub use allowed::Allowed;
+pub use allowed::{Allowed, NOTHING};
 pub use limit::{Limit, lawful};
 pub use pair::{Pair, pair_greatest, pair_kept_exactly};

@@ -5,30 +5,40 @@ ghost use Rattle.grade.specs.Profiles.{Profile, Within};
 ghost use Rattle.grade.specs.Ranks.{ranks};
 ghost use Rattle.limit.specs.Numbers.{Number, number_of, Rule, LimitLaw};
 
-use super::allowed::{Allowed, lesser};
+use super::allowed::{Allowed, number_of};
 use grade::{Cell, Grade};
 
-pub trait Limit<G: Grade> {
+// A limit is copied where a sweep goes on for long, so that what it holds stays at hand.
+pub trait Limit<G: Grade>: Copy {
     // The meaning of a limit: for each profile and sample the rank of what it gives, or −1 where nothing fits.
     ghost number: { Self → Number };
 
     fn evaluate(&self, cells: &[Cell<G>], at: usize) -> Option<G>
         ensures { number_of G.Grade.rank result ≡ number self.now (ranks G.Grade.rank cells.now) at };
 
+    // How many samples, from the first on, `within` can be asked about.
+    ghost span: { Self → ℕ };
+
+    fn span(&self) -> usize
+        ensures { result ≡ span self.now };
+
     // Where the limit finds what bounds a sample, if it has to search for that.
     fn place(&self, _at: usize) -> usize {
         0
     }
 
-    // The same of a sample between two others, as far as a grade: the lesser of the two. `near` is where the limit found what
-    // bounds the sample before this one, so that it need not search; the answer is the same wherever that is.
-    fn within(&self, cells: &[Cell<G>], at: usize, most: G, near: usize) -> Allowed<G>
+    // The number of a sample between two others, as far as a number: the lesser of the two. `near` is where the limit found
+    // what bounds the sample before this one, so that it need not search; the answer is the same wherever that is.
+    fn within(&self, cells: &[Cell<G>], at: usize, most: i64, near: usize) -> Allowed
         requires after_first { 1 ≤ at }
         requires before_last { at + 1 < length cells.now }
-        ensures { number_of G.Grade.rank result.grade ≡ int_min (pos (G.Grade.rank most)) (number self.now (ranks G.Grade.rank cells.now) at) }
+        requires spanned { at < span self.now }
+        requires least { negsuc 0 ≤ℤ most }
+        requires top { most ≤ℤ pos G.Grade.top }
+        ensures { result.number ≡ int_min most (number self.now (ranks G.Grade.rank cells.now) at) }
     {
         Allowed {
-            grade: lesser(most, self.evaluate(cells, at)),
+            number: most.min(number_of(self.evaluate(cells, at))),
             near,
         }
     }

@@ -1,5 +1,5 @@
 // Two limits over one make of grade, both of which are kept.
-ghost use Rattle.std.specs.Prelude.{◌↔◌};
+ghost use Rattle.std.specs.Prelude.{◌↔◌, min};
 ghost use Rattle.grade.specs.Profiles.{Profile};
 ghost use Rattle.grade.specs.Ranks.{ranks};
 ghost use Rattle.limit.specs.Numbers.{both, Allows, Keeps, Greatest};
@@ -10,7 +10,7 @@ use super::allowed::Allowed;
 use super::limit::Limit;
 use grade::{Cell, Grade, lower};
 
-#[derive(Debug, PartialEq, Eq, Drop)]
+#[derive(Clone, Copy, Debug, PartialEq, Eq)]
 pub struct Pair<A, B> {
     pub first: A,
     pub second: B,
@@ -33,18 +33,21 @@ impl<G: Grade, A: Limit<G>, B: Limit<G>> Limit<G> for Pair<A, B> {
         Some(lower(first, second))
     }
 
+    ghost span = { λ l. min (A.Limit.span l.first) (B.Limit.span l.second) };
+
+    fn span(&self) -> usize {
+        self.first.span().min(self.second.span())
+    }
+
     // Of two limits that search, the place of one: either is as good a guess.
     fn place(&self, at: usize) -> usize {
         self.first.place(at).max(self.second.place(at))
     }
 
     #[inline(always)]
-    fn within(&self, cells: &[Cell<G>], at: usize, most: G, near: usize) -> Allowed<G> {
+    fn within(&self, cells: &[Cell<G>], at: usize, most: i64, near: usize) -> Allowed {
         let first = self.first.within(cells, at, most, near);
-        match first.grade {
-            Some(grade) => self.second.within(cells, at, grade, first.near),
-            None => first,
-        }
+        self.second.within(cells, at, first.number, first.near)
     }
 }
 

@@ -3,7 +3,7 @@ use Rattle.std.specs.Prelude.{◌≡◌, ℕ, ◌+◌, ◌-◌, ◌<◌, ◌≤�
 use Rattle.std.proofs.Common.{arith}
 use Rattle.std.proofs.lemmas.Int.{ints, clamps}
 use Rattle.std.proofs.lemmas.Bool.Decides.{nat_tests}
-use Rattle.std.proofs.lemmas.Bool.{lt-ltb, ltb-true, and_parts, and_from}
+use Rattle.std.proofs.lemmas.Bool.{cond-true, lt-ltb, ltb-true, and_parts, and_from}
 use Rattle.grade.specs.Profiles.{Profile, rank}
 use Rattle.limit.specs.Numbers.{KeptExactly}
 use Rattle.grade.specs.Tops.{speed_top}
@@ -28,6 +28,12 @@ module _ (qs : List ℤ) where
   pub average_mono : (p q : Profile) → length p ≡ length q → ((k : ℕ) → rank p k ≤ rank q k) → (i : ℕ) → average qs p i ≤ℤ average qs q i
   average_mono p q len le i =
       rw len (where_mono (inner q i) _ _ speed_top (floored_mono 2 (around qs p i) (around qs q i) (omega (arith, ints, le (i - 1), le (i + 1)))))
+
+  -- between two others
+  pub average_inner : (p : Profile) (i : ℕ) → 1 ≤ i → i + 1 < length p → i < length qs → average qs p i ≡ floored 2 (around qs p i)
+  average_inner p i first last spanned =
+      let t = and_from _ _ (lt-ltb 0 i (omega arith)) (and_from _ _ (lt-ltb (i + 1) (length p) last) (lt-ltb i (length qs) spanned)) in
+      cond-true (inner p i) (floored 2 (around qs p i)) (pos speed_top) t
 
   -- a squared speed is at most the number exactly when it keeps the inequality there
   pub under_average : (p : Profile) (i x : ℕ) → x ≤ speed_top → (pos x ≤ℤ average qs p i) ↔ WithinAverageAt qs p i x

@@ -1,5 +1,5 @@
 -- A ramp keeps the rule, and is kept exactly by the profiles that are in step.
-use Rattle.std.specs.Prelude.{◌≡◌, ℕ, ◌+◌, ◌-◌, ◌<◌, ◌≤◌, ◌&&◌, ltb, ◌↔◌, List, length, pos, negsuc, ◌≤ℤ◌, nat_le, nat_lt, slice_index_or}
+use Rattle.std.specs.Prelude.{◌≡◌, ℕ, ◌+◌, ◌-◌, ◌<◌, ◌≤◌, ◌&&◌, ltb, ◌↔◌, List, length, ℤ, pos, negsuc, ◌≤ℤ◌, nat_le, nat_lt, slice_index_or}
 use Rattle.std.proofs.Common.{ap, arith}
 use Rattle.std.specs.Int.{int_min}
 use Rattle.std.proofs.lemmas.Int.{ints, clamps}
@@ -32,6 +32,11 @@ module _ (top : ℕ) (steps : List Step) where
     ramp_mono =
         let e : ltb i (length p) ≡ ltb i (length q) = ap (ltb i) len in
         rw e (where_mono (nat_lt i (length q)) _ _ top (min_mono _ _ _ _ before_mono after_mono))
+
+  -- between two others, as far as a number
+  pub ramp_within : (p : Profile) (i : ℕ) (most : ℤ) → 1 ≤ i → i + 1 < length p → i < length steps → most ≤ℤ pos top
+      → int_min (int_min most (pos (rank p (i - 1) + (slice_index_or steps (i - 1) no_step).up))) (pos (rank p (i + 1) + (slice_index_or steps i no_step).down)) ≡ int_min most (ramp top steps p i)
+  ramp_within p i most first last spanned high = grind (arith, ints, clamps, nat_tests)
 
   -- ---- what keeps it
 

@@ -1,5 +1,5 @@
 // How far an inner sample may lie above the average of its neighbours.
-ghost use Rattle.std.specs.Prelude.{◌≡◌, ◌+◌, pos, ◌+ℤ◌};
+ghost use Rattle.std.specs.Prelude.{◌≡◌, ◌+◌, length, pos, ◌+ℤ◌};
 ghost use Rattle.grade.specs.Ranks.{ranks, speed_rank};
 ghost use Rattle.grade.specs.Tops.{speed_top};
 ghost use Rattle.limit.specs.Numbers.{KeptExactly, Greatest};
@@ -13,7 +13,7 @@ use super::reading::{samples, unbounded, value};
 use grade::{Cell, Grade, Speed};
 use limit::{Allowed, Limit};
 
-#[derive(Debug, PartialEq, Eq, Drop)]
+#[derive(Clone, Copy, Debug, PartialEq, Eq)]
 pub struct Average<Q> {
     pub offsets: Q,
 }
@@ -42,16 +42,20 @@ impl<Q: Offsets> Limit<Speed> for Average<Q> {
         }
     }
 
+    ghost span = { λ l. length (Q.Offsets.offsets l.offsets) };
+
+    fn span(&self) -> usize {
+        self.offsets.len()
+    }
+
     #[inline(always)]
-    fn within(&self, cells: &[Cell<Speed>], at: usize, most: Speed, near: usize) -> Allowed<Speed> {
-        let grade = if at < self.offsets.len() {
-            let before = value(cells, at - 1);
-            let sum = sum(before, value(cells, at + 1), self.offsets.offset(at));
-            floor_within(TWICE, sum, most)
-        } else {
-            Some(most)
-        };
-        Allowed { grade, near }
+    fn within(&self, cells: &[Cell<Speed>], at: usize, most: i64, near: usize) -> Allowed {
+        let before = value(cells, at - 1);
+        let sum = sum(before, value(cells, at + 1), self.offsets.offset(at));
+        Allowed {
+            number: floor_within(TWICE, sum, most),
+            near,
+        }
     }
 }
 

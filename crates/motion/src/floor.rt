@@ -1,5 +1,5 @@
 // The flooring leaf: the greatest squared speed that a factor leaves room for.
-ghost use Rattle.std.specs.Prelude.{◌≡◌, ◌*◌, ◌/◌, ◌≤◌, min, pos, ◌≤ℤ◌};
+ghost use Rattle.std.specs.Prelude.{◌≡◌, ◌*◌, ◌/◌, ◌≤◌, min, pos, negsuc, ◌≤ℤ◌};
 ghost use Rattle.std.specs.Int.{int_min};
 ghost use Rattle.grade.specs.Ranks.{speed_rank};
 ghost use Rattle.grade.specs.Tops.{speed_top};
@@ -7,6 +7,7 @@ ghost use Rattle.limit.specs.Numbers.{number_of, Greatest};
 ghost use Rattle.motion.specs.Floors.{floored};
 
 use grade::{Grade, Speed};
+use limit::NOTHING;
 
 // The greatest g up to the top with factor × g ≤ n, and nothing where n is negative.
 pub(crate) fn floor_bound(factor: u32, n: i64) -> Option<Speed>
@@ -20,19 +21,21 @@ pub(crate) fn floor_bound(factor: u32, n: i64) -> Option<Speed>
     Some(floored_quotient(factor, n as u64))
 }
 
-// The lesser of a grade and the greatest g up to the top with factor × g ≤ n, and nothing where n is negative. It divides
-// only where the grade is too great.
-#[tactic(auto, using(crate::proofs::Flooring::stays, crate::proofs::Flooring::falls))]
-pub(crate) fn floor_within(factor: u32, n: i64, most: Speed) -> Option<Speed>
-    requires { 1 ≤ factor }
-    ensures { number_of speed_rank result ≡ int_min (pos (speed_rank most)) (floored factor n) }
+// The lesser of a number up to the top and the greatest g up to the top with factor × g ≤ n, −1 where n is negative. It divides
+// only where the number is too great.
+#[inline(always)]
+pub(crate) fn floor_within(factor: u32, n: i64, most: i64) -> i64
+    requires some { 1 ≤ factor }
+    requires least { negsuc 0 ≤ℤ most }
+    requires top { most ≤ℤ pos speed_top }
+    ensures { result ≡ int_min most (floored factor n) }
 {
-    if n < 0 {
-        None
-    } else if factor as u64 * most.rank() as u64 <= n as u64 {
-        Some(most)
+    if factor as i64 * most <= n {
+        most
+    } else if n < 0 {
+        NOTHING
     } else {
-        Some(Speed::of_rank((n as u64 / factor as u64) as u32))
+        (n as u64 / factor as u64) as i64
     }
 }
 

@@ -1,18 +1,17 @@
 // How much a profile may rise and fall from sample to sample, for every raisable grade.
-ghost use Rattle.std.specs.Prelude.{◌≡◌, pos};
+ghost use Rattle.std.specs.Prelude.{◌≡◌, ◌+◌, length, pos};
 ghost use Rattle.grade.specs.Ranks.{ranks};
 ghost use Rattle.limit.specs.Numbers.{KeptExactly, Greatest};
 ghost use Rattle.motion.specs.Ramps.{before_allows, after, ramp, WithinSteps, WithinStepsAt};
 ghost use Rattle.motion.specs.RampsLemmas.{ramp_low, ramp_high, ramp_outside, ramp_mono};
 ghost use Rattle.grade.proofs.Ranking.{at_most_everywhere};
 
-use super::raising::raised_within;
 use super::reading::{samples, unbounded, value};
 use super::steps::Steps;
 use grade::{Cell, Raisable, lower};
 use limit::{Allowed, Limit};
 
-#[derive(Debug, PartialEq, Eq, Drop)]
+#[derive(Clone, Copy, Debug, PartialEq, Eq)]
 pub struct Ramp<S> {
     pub steps: S,
 }
@@ -34,20 +33,28 @@ impl<G: Raisable, S: Steps> Limit<G> for Ramp<S> {
         Some(lower(risen, fallen))
     }
 
+    ghost span = { λ l. length (S.Steps.steps l.steps) };
+
+    fn span(&self) -> usize {
+        self.steps.len()
+    }
+
     #[inline(always)]
-    fn within(&self, cells: &[Cell<G>], at: usize, most: G, near: usize) -> Allowed<G> {
-        let grade = if at < self.steps.len() {
-            let up = self.steps.step(at - 1).up;
-            let risen = raised_within(value(cells, at - 1), up, most);
-            raised_within(value(cells, at + 1), self.steps.step(at).down, risen)
-        } else {
-            lower(most, ramp_before(self, cells, at))
-        };
+    fn within(&self, cells: &[Cell<G>], at: usize, most: i64, near: usize) -> Allowed {
+        let risen = raised(value(cells, at - 1), self.steps.step(at - 1).up);
+        let fallen = raised(value(cells, at + 1), self.steps.step(at).down);
         Allowed {
-            grade: Some(grade),
+            number: most.min(risen).min(fallen),
             near,
         }
     }
+}
+
+// A grade's rank and more, which may lie above the top. It fits 64 bits signed: each is below 2^32.
+fn raised<G: Raisable>(grade: G, by: u32) -> i64
+    ensures { result ≡ pos (G.Grade.rank grade + by) }
+{
+    grade.rank() as i64 + by as i64
 }
 
 // What the sample before allows: its grade, raised by up of the gap between; the top where there is no such sample.

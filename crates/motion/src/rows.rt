@@ -5,7 +5,7 @@ ghost use Rattle.torque.specs.Rows.{row_at, SoundRows};
 
 use torque::Row;
 
-pub trait Rows {
+pub trait Rows: Copy {
     ghost spacing: { Self → ℕ };
 
     ghost rows: { Self → List Row };

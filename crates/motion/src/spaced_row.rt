@@ -16,32 +16,11 @@ pub(crate) struct SpacedRow {
 }
 
 impl SpacedRow {
-    ghost use Rattle.std.specs.Prelude.{◌≡◌, ◌+◌, ◌<◌, ◌≤◌, length, pos, unsigned_abs};
-    ghost use Rattle.std.specs.Int.{int_min};
+    ghost use Rattle.std.specs.Prelude.{◌≡◌, unsigned_abs};
     ghost use Rattle.grade.specs.Ranks.{ranks, speed_rank};
     ghost use Rattle.limit.specs.Numbers.{number_of};
     ghost use Rattle.torque.specs.Rows.{weight};
     ghost use Rattle.motion.specs.Torques.{Fit, on_right_of, on_left_of, bound, allows_after, allows_before, allows};
-
-    // What the row allows a sample between two others, as far as a grade.
-    pub(crate) fn allows_within(
-        self,
-        cells: &[Cell<Speed>],
-        at: usize,
-        most: Speed,
-    ) -> Option<Speed>
-        requires after_first { 1 ≤ at }
-        requires before_last { at + 1 < length cells.now }
-        ensures { number_of speed_rank result ≡ int_min (pos (speed_rank most)) (allows self.h (ranks speed_rank cells.now) at self.row) }
-    {
-        if self.row.gap as usize + 1 == at {
-            self.on_right().bound_within(value(cells, at - 1), most)
-        } else if self.row.gap as usize == at {
-            self.on_left().bound_within(value(cells, at + 1), most)
-        } else {
-            Some(most)
-        }
-    }
 
     // What the row allows at a sample.
     pub(crate) fn allows(self, cells: &[Cell<Speed>], at: usize) -> Option<Speed>
@@ -80,7 +59,7 @@ impl SpacedRow {
     }
 
     // The inequality that bounds the sample after the gap.
-    fn on_right(self) -> Triple
+    pub(crate) fn on_right(self) -> Triple
         ensures is { result ≡ on_right_of self.h self.row }
         ensures fits { Fit result }
     {
@@ -108,7 +87,7 @@ impl SpacedRow {
     }
 
     // The inequality that bounds the sample before the gap.
-    fn on_left(self) -> Triple
+    pub(crate) fn on_left(self) -> Triple
         ensures is { result ≡ on_left_of self.h self.row }
         ensures fits { Fit result }
     {

@@ -4,7 +4,7 @@ ghost use Rattle.std.specs.Prelude.{◌≡◌};
 use super::average::Average;
 use super::offsets::Offsets;
 use super::ramp::Ramp;
-use super::rows::Rows;
+use super::sides::Sides;
 use super::steps::Steps;
 use super::torque_limit::Torque;
 use limit::Pair;
@@ -12,7 +12,7 @@ use limit::Pair;
 pub type SpeedLimit<S, Q, R> = Pair<Ramp<S>, Pair<Average<Q>, Torque<R>>>;
 
 // The limit over these data.
-pub fn make_speed_limit<S: Steps, Q: Offsets, R: Rows>(
+pub fn make_speed_limit<S: Steps, Q: Offsets, R: Sides>(
     steps: S,
     offsets: Q,
     rows: R,

@@ -9,7 +9,7 @@ pub struct Step {
     pub down: u32,
 }
 
-pub trait Steps {
+pub trait Steps: Copy {
     ghost steps: { Self → List Step };
 
     fn len(&self) -> usize

@@ -2,7 +2,7 @@
 ghost use Rattle.std.specs.Prelude.{◌≡◌, true};
 ghost use Rattle.torque.specs.Soundness.{sound_rows, are_sound_lem};
 
-use motion::{Row, Rows};
+use motion::{Row, Rows, Sides};
 
 // Rows at spacing h, known to be sound: `are_sound` asks for that first.
 #[derive(Clone, Copy, Debug, PartialEq, Eq)]
@@ -29,5 +29,13 @@ impl<'a> Rows for RowSlice<'a> {
 
     fn row(&self, at: usize) -> Row {
         self.rows[at]
+    }
+}
+
+impl<'a> Sides for RowSlice<'a> {
+    ghost span = { λ s. u64.MAX };
+
+    fn span(&self) -> usize {
+        usize::MAX
     }
 }

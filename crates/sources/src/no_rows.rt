@@ -5,7 +5,7 @@ ghost use Rattle.sources.specs.Sources.{rows_of};
 ghost use Rattle.sources.specs.Soundness.{rows_sound};
 
 use frame::PathFrame;
-use motion::{Row, Rows};
+use motion::{Row, Rows, Sides};
 
 /// The torque rows of a frame without any.
 #[derive(Clone, Copy, Debug, PartialEq, Eq)]
@@ -34,5 +34,18 @@ impl<'a> Rows for NoRows<'a> {
     #[tactic(auto, using(crate::proofs::Counted::rows_counted))]
     fn row(&self, at: usize) -> Row {
         self.frame.known_row(at)
+    }
+}
+
+impl<'a> Sides for NoRows<'a> {
+    ghost span = { λ s. u64.MAX };
+
+    fn span(&self) -> usize {
+        usize::MAX
+    }
+
+    #[tactic(auto, using(crate::proofs::Counted::rows_counted))]
+    fn first(&self, _gap: usize, _near: usize) -> usize {
+        0
     }
 }

@@ -4,7 +4,7 @@ ghost use Rattle.sources.specs.Sources.{rows_of};
 ghost use Rattle.sources.specs.Soundness.{rows_sound};
 
 use frame::PathFrame;
-use motion::{Row, Rows};
+use motion::{Row, Rows, Sides};
 
 /// The torque rows of a frame.
 #[derive(Clone, Copy, Debug, PartialEq, Eq)]
@@ -30,5 +30,14 @@ impl<'a> Rows for FrameRows<'a> {
     #[tactic(auto, using(crate::proofs::Counted::rows_counted))]
     fn row(&self, at: usize) -> Row {
         self.frame.known_row(at)
+    }
+}
+
+// Where a gap's rows begin is looked for, from any gap on.
+impl<'a> Sides for FrameRows<'a> {
+    ghost span = { λ s. u64.MAX };
+
+    fn span(&self) -> usize {
+        usize::MAX
     }
 }

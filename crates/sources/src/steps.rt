@@ -12,7 +12,7 @@ use record::Gap;
 use std::marker::PhantomData;
 
 /// Which numbers of a gap are the step for a make of grade.
-pub trait GapStep {
+pub trait GapStep: Copy {
     ghost step_of: { Gap → Step };
 
     fn step(gap: Gap) -> Step

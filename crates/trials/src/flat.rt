@@ -21,6 +21,12 @@ impl<G: Grade> Limit<G> for Flat<G> {
 
     ghost monotone = { Prim.search rules };
 
+    ghost span = { λ l. u64.MAX };
+
+    fn span(&self) -> usize {
+        usize::MAX
+    }
+
     fn evaluate(&self, cells: &[Cell<G>], at: usize) -> Option<G> {
         if at < cells.len() {
             Some(self.most)

@@ -1,9 +1,12 @@
--- Where nothing fits under the first, no number of the second is lower.
-use Rattle.std.proofs.Common.{rules}
+-- The number that the first allows is one to ask the second about.
+use Rattle.std.proofs.Common.{arith}
+use Rattle.std.proofs.lemmas.Int.{ints, clamps}
 use Rattle.grade.proofs.Ranking.{ranks_within}
 use Rattle.limit.proofs.pair.PairLimit.within.Goals as goal
 
-pub returns-in-None : goal.returns-in-None
-returns-in-None g c =
-    let low = g.met.B.Limit.low c.args.self.now.second _ c.args.at (ranks_within g.G.Grade.rank g.G.Grade.top g.met.G.Grade.within c.args.cells.now) in
-    search rules
+pub within-requires-clause-least : goal.within-requires-clause-least
+within-requires-clause-least g c =
+    let low = g.met.A.Limit.low c.args.self.now.first _ c.args.at (ranks_within g.G.Grade.rank g.G.Grade.top g.met.G.Grade.within c.args.cells.now) in
+    let least = c.requires.least.le in
+    let e = c.within-first.ensures in
+    omega (arith, ints, clamps)

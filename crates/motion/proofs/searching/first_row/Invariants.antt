@@ -1,6 +1,6 @@
 use Rattle.std.proofs.Common.{ℕ, ◌+◌, ◌-◌, ◌<◌, ◌≤◌, length}
 use Rattle.torque.specs.Rows.{row_at}
-use Rattle.motion.proofs.torque_limit.first_row.Given as goal
+use Rattle.motion.proofs.searching.first_row.Given as goal
 
 abbrev pub invariant-loop-low : goal.invariant-loop-low
 invariant-loop-low g l =
