@@ -7,6 +7,10 @@ use Rattle.grade.specs.Profiles.{Profile, rank, Within, AtMost}
 abbrev pub Number : Type 0
 Number = Profile → ℕ → ℤ
 
+-- the span of a limit that holds no data by sample: as many samples as there can be
+abbrev pub every_sample : ℕ
+every_sample = 18446744073709551615
+
 -- the number of an answer
 abbrev pub number_of : {G : Type 0} → (G → ℕ) → Option G → ℤ
 number_of rank_of None = negsuc 0

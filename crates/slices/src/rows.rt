@@ -1,5 +1,6 @@
 // Rows of torque in a slice.
 ghost use Rattle.std.specs.Prelude.{◌≡◌, true};
+ghost use Rattle.limit.specs.Numbers.{every_sample};
 ghost use Rattle.torque.specs.Soundness.{sound_rows, are_sound_lem};
 
 use motion::{Row, Rows, Sides};
@@ -33,7 +34,7 @@ impl<'a> Rows for RowSlice<'a> {
 }
 
 impl<'a> Sides for RowSlice<'a> {
-    ghost span = { λ s. u64.MAX };
+    ghost span = { λ s. every_sample };
 
     fn span(&self) -> usize {
         usize::MAX

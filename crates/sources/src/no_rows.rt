@@ -1,5 +1,6 @@
 // The torque rows of a frame that has none. With no row to look for, the loop over the samples stays small.
 ghost use Rattle.std.specs.Prelude.{◌≡◌};
+ghost use Rattle.limit.specs.Numbers.{every_sample};
 ghost use Rattle.frame.specs.Views.{path_of};
 ghost use Rattle.sources.specs.Sources.{rows_of};
 ghost use Rattle.sources.specs.Soundness.{rows_sound};
@@ -38,7 +39,7 @@ impl<'a> Rows for NoRows<'a> {
 }
 
 impl<'a> Sides for NoRows<'a> {
-    ghost span = { λ s. u64.MAX };
+    ghost span = { λ s. every_sample };
 
     fn span(&self) -> usize {
         usize::MAX

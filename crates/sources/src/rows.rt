@@ -1,4 +1,5 @@
 // The torque rows of a frame, at its spacing: the questions that the frame passed make them sound.
+ghost use Rattle.limit.specs.Numbers.{every_sample};
 ghost use Rattle.frame.specs.Views.{path_of};
 ghost use Rattle.sources.specs.Sources.{rows_of};
 ghost use Rattle.sources.specs.Soundness.{rows_sound};
@@ -35,7 +36,7 @@ impl<'a> Rows for FrameRows<'a> {
 
 // Where a gap's rows begin is looked for, from any gap on.
 impl<'a> Sides for FrameRows<'a> {
-    ghost span = { λ s. u64.MAX };
+    ghost span = { λ s. every_sample };
 
     fn span(&self) -> usize {
         usize::MAX

@@ -1,5 +1,6 @@
 // A limit by another maker: the same grade at every sample, whatever the others are.
 ghost use Rattle.std.specs.Prelude.{length, pos, cond, nat_lt};
+ghost use Rattle.limit.specs.Numbers.{every_sample};
 ghost use Rattle.std.proofs.Common.{rules};
 
 use grade::{Cell, Grade};
@@ -21,7 +22,7 @@ impl<G: Grade> Limit<G> for Flat<G> {
 
     ghost monotone = { Prim.search rules };
 
-    ghost span = { λ l. u64.MAX };
+    ghost span = { λ l. every_sample };
 
     fn span(&self) -> usize {
         usize::MAX
