@@ -1,5 +1,6 @@
 -- How many rows lie at gaps before one: where rows lie by gap, that is the first row whose gap is not before it.
-use Rattle.std.proofs.Common.{◌≡◌, ℕ, zero, suc, ◌+◌, ◌<◌, ◌≤◌, cond, nat_lt, List, [], ◌∷◌, length, refl, arith, ◌⊎◌, inl, inr}
+use Rattle.std.proofs.Common.{◌≡◌, ℕ, zero, suc, ◌+◌, ◌<◌, ◌≤◌, cond, nat_lt, List, [], ◌∷◌, length, refl, arith, inl, inr}
+use Rattle.std.proofs.lemmas.Bool.{cases_lt}
 use Rattle.std.proofs.lemmas.Bool.Decides.{nat_tests}
 use Rattle.std.proofs.lemmas.List.Sums.{count_by-le-length, sum_by-cons}
 use Rattle.torque.specs.declared.row.Row.{Row}
@@ -45,9 +46,6 @@ unfolding rows_before
 none g [] h = refl
 none g (r ∷ rows) h = omega (arith, head_not g r rows (h 0 (omega arith)), none g rows (λ k l. h (suc k) (omega arith)))
 
-lt_or_le : (m n : ℕ) → (m < n) ⊎ (n ≤ m)
-lt_or_le m n = grind arith
-
 abbrev Rising : List Row → Type 0
 Rising rows = (j k : ℕ) → j ≤ k → k < length rows → (row_at rows j).gap ≤ (row_at rows k).gap
 
@@ -73,7 +71,7 @@ module _ (h g : ℕ) (rows : List Row) (s : SoundRows h rows) (k : ℕ) (l : k <
 
   -- the other way about
   pub before_lower : k < rows_before g rows → (row_at rows k).gap < g
-  before_lower m = elim (lt_or_le (row_at rows k).gap g) [ inl a ↦ a | inr a ↦ absurd (omega (arith, before_no a)) ]
+  before_lower m = elim (cases_lt (row_at rows k).gap g) [ inl a ↦ a | inr a ↦ absurd (omega (arith, before_no a)) ]
 
   pub before_upper : rows_before g rows ≤ k → g ≤ (row_at rows k).gap
-  before_upper m = elim (lt_or_le (row_at rows k).gap g) [ inl a ↦ absurd (omega (arith, before_yes a)) | inr a ↦ a ]
+  before_upper m = elim (cases_lt (row_at rows k).gap g) [ inl a ↦ absurd (omega (arith, before_yes a)) | inr a ↦ a ]

@@ -21,10 +21,10 @@ use Rattle.prepared.specs.Lists.{rows_before, up_to, bounds_at, sample_bounds_of
 use Rattle.prepared.proofs.Before.{before_few, before_lower, before_upper}
 use Rattle.prepared.proofs.Listed.{length-sample_bounds_of, sample_bounds_at, length-row_bounds_of, row_bounds_at}
 
-abbrev pub right_triple : RowBounds → Triple
+abbrev right_triple : RowBounds → Triple
 right_triple b = record { own = b.after; near = b.before; constant = b.right }
 
-abbrev pub left_triple : RowBounds → Triple
+abbrev left_triple : RowBounds → Triple
 left_triple b = record { own = b.before; near = b.after; constant = b.left }
 
 module _ (bs : List ℕ) (e : accepted bs ≡ true) (xs : List SampleBounds) (is : xs ≡ sample_bounds_of (path_of bs)) where
@@ -92,18 +92,19 @@ module _ (p : Path) (ys : List RowBounds) (is : ys ≡ row_bounds_of p) where
   row_there : (k : ℕ) (d : RowBounds) → k < length (rows_of p) → get_or ys k d ≡ bounds_of_row p.header.spacing (row_at (rows_of p) k)
   row_there k d l = ap (λ (zs : List RowBounds). get_or zs k d) is ∙ row_bounds_at p k d l
 
-  pub right_there : (k : ℕ) (d : RowBounds) → k < length (rows_of p) → right_triple (get_or ys k d) ≡ on_right_of p.header.spacing (row_at (rows_of p) k)
-  right_there k d l = ap right_triple (row_there k d l)
+  -- the same with the constant as memory holds it
+  pub right_kept : (k : ℕ) (d : RowBounds) → k < length (rows_of p) → SFits w64 (get_or ys k d).right
+      → record { own = (get_or ys k d).after; near = (get_or ys k d).before; constant = to_z w64 (of_z w64 (get_or ys k d).right) } ≡ on_right_of p.header.spacing (row_at (rows_of p) k)
+  right_kept k d l f =
+      let b = get_or ys k d in
+      ap (λ (n : ℤ). let t : Triple = record { own = b.after; near = b.before; constant = n } in t) (to_z-of_z f) ∙ ap right_triple (row_there k d l)
 
-  pub left_there : (k : ℕ) (d : RowBounds) → k < length (rows_of p) → left_triple (get_or ys k d) ≡ on_left_of p.header.spacing (row_at (rows_of p) k)
-  left_there k d l = ap left_triple (row_there k d l)
+  pub left_kept : (k : ℕ) (d : RowBounds) → k < length (rows_of p) → SFits w64 (get_or ys k d).left
+      → record { own = (get_or ys k d).before; near = (get_or ys k d).after; constant = to_z w64 (of_z w64 (get_or ys k d).left) } ≡ on_left_of p.header.spacing (row_at (rows_of p) k)
+  left_kept k d l f =
+      let b = get_or ys k d in
+      ap (λ (n : ℤ). let t : Triple = record { own = b.before; near = b.after; constant = n } in t) (to_z-of_z f) ∙ ap left_triple (row_there k d l)
 
--- a constant read from memory as it was written there
-pub right_kept : {b : RowBounds} {t : Triple} → SFits w64 b.right → right_triple b ≡ t → record { own = b.after; near = b.before; constant = to_z w64 (of_z w64 b.right) } ≡ t
-right_kept {b = b} f e = ap (λ (n : ℤ). let t : Triple = record { own = b.after; near = b.before; constant = n } in t) (to_z-of_z f) ∙ e
-
-pub left_kept : {b : RowBounds} {t : Triple} → SFits w64 b.left → left_triple b ≡ t → record { own = b.before; near = b.after; constant = to_z w64 (of_z w64 b.left) } ≡ t
-left_kept {b = b} f e = ap (λ (n : ℤ). let t : Triple = record { own = b.before; near = b.after; constant = n } in t) (to_z-of_z f) ∙ e
-
+-- an offset as memory holds it
 pub offset_kept : {z q : ℤ} → SFits w32 z → z ≡ q → to_z w32 (of_z w32 z) ≡ q
 offset_kept f e = to_z-of_z f ∙ e

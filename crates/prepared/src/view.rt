@@ -1,5 +1,5 @@
 // A frame beside memory that was prepared for it.
-ghost use Rattle.std.specs.Prelude.{◌≡◌};
+ghost use Rattle.std.specs.Prelude.{◌≡◌, ◌<◌, ◌^◌};
 ghost use Rattle.frame.specs.Views.{path_of};
 ghost use Rattle.prepared.specs.Lists.{sample_bounds_of, row_bounds_of, Begins};
 
@@ -13,6 +13,7 @@ pub struct Prepared<'a> {
     pub samples: &'a [SampleBounds],
     pub rows: &'a [RowBounds],
     ghost sampled: { samples.now ≡ sample_bounds_of (path_of frame.bytes.now) },
+    ghost narrow: { (path_of frame.bytes.now).header.spacing < 2 ^ 16 },
     ghost rowed: { rows.now ≡ row_bounds_of (path_of frame.bytes.now) },
 }
 

@@ -1,6 +1,7 @@
 use Rattle.std.proofs.Common.{rules, arith}
 use Rattle.frame.specs.Views.{path_of}
-use Rattle.prepared.proofs.Reading.{few_rows, rows_many, left_there, left_kept}
+use Rattle.prepared.proofs.Fitting.{left_fits}
+use Rattle.prepared.proofs.Reading.{few_rows, rows_many, left_kept}
 use Rattle.prepared.proofs.sides.PreparedSides.on_left.Goals as goal
 
 pub offset_bounds-self-at : goal.offset_bounds-self-at
@@ -12,4 +13,5 @@ bounds-self-at c = let s = c.args.self.now in omega (arith, c.requires, rows_man
 pub returns : goal.returns
 returns c =
     let s = c.args.self.now in
-    left_kept (search rules) (left_there (path_of s.frame.bytes.now) s.rows.now s.rowed c.args.at _ c.requires)
+    let is = left_kept (path_of s.frame.bytes.now) s.rows.now s.rowed c.args.at _ c.requires (search rules) in
+    record { is = is; fits = left_fits s.frame.bytes.now s.frame.sound s.narrow c.args.at c.requires _ is }

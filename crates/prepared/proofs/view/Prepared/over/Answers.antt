@@ -1,4 +1,4 @@
-use Rattle.std.proofs.Common.{ap, sym, ◌∙◌}
+use Rattle.std.proofs.Common.{◌<◌, ◌^◌, subst, arith, ap, sym, ◌∙◌}
 use Rattle.frame.specs.declared.header.Header.{Header}
 use Rattle.frame.specs.Views.{path_of}
 use Rattle.prepared.specs.Lists.{sample_bounds_of, row_bounds_of}
@@ -24,6 +24,7 @@ invariant_of-result c =
     record {
       sampled = front_is (sample_bounds_of (path_of frame.bytes.now)) c.args.samples.now c.header-header.result.samples
           (samples_long frame.bytes.now frame.sound ∙ ap (λ (h : Header). h.samples) (sym c.header-header.ensures)) c.requires.samples;
+      narrow = subst (λ (h : Header). h.spacing < 2 ^ 16) c.header-header.ensures (omega arith);
       rowed = front_is (row_bounds_of (path_of frame.bytes.now)) c.args.rows.now c.header-header.result.rows
           (rows_long frame.bytes.now frame.sound ∙ ap (λ (h : Header). h.rows) (sym c.header-header.ensures)) c.requires.rows;
     }
