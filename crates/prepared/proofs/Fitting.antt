@@ -1,5 +1,5 @@
 -- The two inequalities of a sound row at a spacing of 16 bits fit 64 bits.
-use Rattle.std.proofs.Common.{◌≡◌, ℕ, ◌*◌, ◌^◌, ◌<◌, ◌≤◌, Bool, true, false, cond, List, length, ℤ, pos, ◌-ℤ◌, ◌*ℤ◌, int_lt, unsigned_abs, subst, sym, arith}
+use Rattle.std.proofs.Common.{◌≡◌, ℕ, ◌*◌, ◌^◌, ◌<◌, ◌≤◌, Bool, true, false, cond, List, length, ℤ, pos, ◌-ℤ◌, int_lt, unsigned_abs, subst, sym, arith}
 use Rattle.std.proofs.lemmas.Int.{ints}
 use Rattle.torque.specs.declared.row.Row.{Row}
 use Rattle.torque.specs.Rows.{Sound, row_at, room_above_of, room_below_of}

@@ -1,6 +1,6 @@
 -- What a prepared frame's memory says of its path: the samples' bounds as a limit reads them.
 use Rattle.std.proofs.Math.Facts.{to_z-of_z}
-use Rattle.std.proofs.Common.{◌≡◌, ℕ, to_z, of_z, SFits, w32, ◌+◌, ◌-◌, ◌<◌, ◌≤◌, true, cond, List, length, map, get_or, Fits, w64, ℤ, pos, nat_eq, sym, ap, ◌∙◌, arith}
+use Rattle.std.proofs.Common.{◌≡◌, ℕ, to_z, of_z, SFits, w32, ◌+◌, ◌-◌, ◌<◌, ◌≤◌, true, List, length, get_or, w64, ℤ, pos, nat_eq, sym, ap, ◌∙◌, arith}
 use Rattle.std.proofs.lemmas.List.{length-map}
 use Rattle.std.proofs.lemmas.Bool.{ne_eqb, cond-false}
 use Rattle.record.specs.declared.sample.Sample.{Sample}

@@ -4,6 +4,7 @@
 
 mod bounds;
 mod filling;
+mod limits;
 mod offsets;
 mod row_filling;
 mod rows;
@@ -14,4 +15,5 @@ mod view;
 
 pub use bounds::{RowBounds, SampleBounds};
 pub use filling::prepare;
+pub use limits::{speed_limit, speed_limit_without_rows};
 pub use view::Prepared;

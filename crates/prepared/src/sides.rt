@@ -12,7 +12,7 @@ impl<'a> Sides for Prepared<'a> {
     }
 
     #[inline(always)]
-    fn first(&self, gap: usize, near: usize) -> usize {
+    fn first(&self, gap: usize, _near: usize) -> usize {
         self.samples[gap].first_row as usize
     }
 

@@ -1,4 +1,4 @@
-use Rattle.std.proofs.Common.{arith, Fits, w64}
+use Rattle.std.proofs.Common.{arith}
 use Rattle.prepared.proofs.Reading.{steps_many, step_there, few}
 use Rattle.prepared.proofs.steps.PreparedSteps.step.Goals as goal
 
