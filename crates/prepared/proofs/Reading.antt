@@ -1,6 +1,6 @@
--- What a prepared frame's memory says of its path: the samples' bounds as a limit reads them.
+-- What a prepared frame's memory says of its path, as a limit reads it.
 use Rattle.std.proofs.Math.Facts.{to_z-of_z}
-use Rattle.std.proofs.Common.{◌≡◌, ℕ, to_z, of_z, SFits, w32, ◌+◌, ◌-◌, ◌<◌, ◌≤◌, true, List, length, get_or, w64, ℤ, pos, nat_eq, sym, ap, ◌∙◌, arith}
+use Rattle.std.proofs.Common.{◌≡◌, ℕ, to_z, of_z, SFits, w32, ◌+◌, ◌-◌, ◌<◌, ◌≤◌, List, length, get_or, w64, ℤ, pos, nat_eq, sym, ap, ◌∙◌, arith}
 use Rattle.std.proofs.lemmas.List.{length-map}
 use Rattle.std.proofs.lemmas.Bool.{ne_eqb, cond-false}
 use Rattle.record.specs.declared.sample.Sample.{Sample}
@@ -9,7 +9,7 @@ use Rattle.motion.specs.Ramps.{no_step}
 use Rattle.motion.specs.declared.triple.Triple.{Triple}
 use Rattle.motion.specs.Torques.{on_left_of, on_right_of}
 use Rattle.torque.specs.Rows.{row_at}
-use Rattle.frame.specs.Paths.{Path, accepted}
+use Rattle.frame.specs.Paths.{Path}
 use Rattle.frame.specs.Views.{path_of}
 use Rattle.frame.proofs.Accepted.{yes'}
 use Rattle.sources.specs.Sources.{speed_step_of, speed_steps, offsets_of, rows_of}
@@ -17,7 +17,8 @@ use Rattle.sources.specs.Soundness.{rows_sound}
 use Rattle.sources.proofs.Counted.{samples_counted, gaps_counted, rows_counted}
 use Rattle.prepared.specs.declared.bounds.SampleBounds.{SampleBounds}
 use Rattle.prepared.specs.declared.bounds.RowBounds.{RowBounds}
-use Rattle.prepared.specs.Lists.{rows_before, up_to, bounds_at, sample_bounds_of, bounds_of_row, row_bounds_of}
+use Rattle.prepared.specs.declared.view.Prepared.{Prepared}
+use Rattle.prepared.specs.Lists.{rows_before, up_to, bounds_at, bounds_of_row}
 use Rattle.prepared.proofs.Before.{before_few, before_lower, before_upper}
 use Rattle.prepared.proofs.Listed.{length-sample_bounds_of, sample_bounds_at, length-row_bounds_of, row_bounds_at}
 
@@ -27,26 +28,38 @@ right_triple b = record { own = b.after; near = b.before; constant = b.right }
 abbrev left_triple : RowBounds → Triple
 left_triple b = record { own = b.before; near = b.after; constant = b.left }
 
-module _ (bs : List ℕ) (e : accepted bs ≡ true) (xs : List SampleBounds) (is : xs ≡ sample_bounds_of (path_of bs)) where
-  pub samples_many : length xs ≡ length (path_of bs).samples
-  samples_many = ap length is ∙ length-sample_bounds_of (path_of bs)
+module _ (s : Prepared) where
+  abbrev bs : List ℕ
+  bs = s.frame.bytes.now
+
+  abbrev p : Path
+  p = path_of bs
+
+  abbrev xs : List SampleBounds
+  xs = s.samples.now
+
+  abbrev ys : List RowBounds
+  ys = s.rows.now
+
+  pub samples_many : length xs ≡ length p.samples
+  samples_many = ap length s.sampled ∙ length-sample_bounds_of p
 
   pub few : length xs ≤ 4096
-  few = omega (arith, samples_many, samples_counted bs e, (yes' bs e).header.many)
+  few = omega (arith, samples_many, samples_counted bs s.frame.sound, (yes' bs s.frame.sound).header.many)
 
-  pub few_rows : length (rows_of (path_of bs)) ≤ 8192
-  few_rows = omega (arith, rows_counted bs e, (yes' bs e).header.rowed)
+  pub few_rows : length (rows_of p) ≤ 8192
+  few_rows = omega (arith, rows_counted bs s.frame.sound, (yes' bs s.frame.sound).header.rowed)
 
-  pub offsets_many : length xs ≡ length (offsets_of (path_of bs))
-  offsets_many = samples_many ∙ sym (length-map (path_of bs).samples (λ (s : Sample). s.q))
+  pub offsets_many : length xs ≡ length (offsets_of p)
+  offsets_many = samples_many ∙ sym (length-map p.samples (λ (x : Sample). x.q))
 
-  pub steps_many : length (speed_steps (path_of bs)) ≡ length xs - 1
-  steps_many = omega (arith, length-map (path_of bs).gaps speed_step_of, gaps_counted bs e, samples_counted bs e, samples_many)
+  pub steps_many : length (speed_steps p) ≡ length xs - 1
+  steps_many = omega (arith, length-map p.gaps speed_step_of, gaps_counted bs s.frame.sound, samples_counted bs s.frame.sound, samples_many)
 
-  pub bounds_there : (i : ℕ) (d : SampleBounds) → i < length xs → get_or xs i d ≡ bounds_at (path_of bs) i
-  bounds_there i d l = ap (λ (ys : List SampleBounds). get_or ys i d) is ∙ sample_bounds_at (path_of bs) i d (omega (arith, samples_many))
+  pub bounds_there : (i : ℕ) (d : SampleBounds) → i < length xs → get_or xs i d ≡ bounds_at p i
+  bounds_there i d l = ap (λ (zs : List SampleBounds). get_or zs i d) s.sampled ∙ sample_bounds_at p i d (omega (arith, samples_many))
 
-  pub offset_there : (i : ℕ) (d : SampleBounds) → i < length xs → (get_or xs i d).offset ≡ get_or (offsets_of (path_of bs)) i (pos 0)
+  pub offset_there : (i : ℕ) (d : SampleBounds) → i < length xs → (get_or xs i d).offset ≡ get_or (offsets_of p) i (pos 0)
   offset_there i d l = ap (λ (b : SampleBounds). b.offset) (bounds_there i d l)
 
   up_next : (steps : List Step) (i : ℕ) → up_to steps (i + 1) ≡ (get_or steps i no_step).up
@@ -55,44 +68,42 @@ module _ (bs : List ℕ) (e : accepted bs ≡ true) (xs : List SampleBounds) (is
       let n : i + 1 - 1 ≡ i = omega arith in
       cond-false (nat_eq (i + 1) 0) 0 (get_or steps (i + 1 - 1) no_step).up t ∙ ap (λ (k : ℕ). (get_or steps k no_step).up) n
 
-  pub step_there : (i : ℕ) (d : SampleBounds) → i < length (speed_steps (path_of bs)) → record { up = (get_or xs (i + 1) d).up; down = (get_or xs i d).down } ≡ get_or (speed_steps (path_of bs)) i no_step
+  pub step_there : (i : ℕ) (d : SampleBounds) → i < length (speed_steps p) → record { up = (get_or xs (i + 1) d).up; down = (get_or xs i d).down } ≡ get_or (speed_steps p) i no_step
   step_there i d l =
       let m = steps_many in
-      let u : (get_or xs (i + 1) d).up ≡ (get_or (speed_steps (path_of bs)) i no_step).up = ap (λ (b : SampleBounds). b.up) (bounds_there (i + 1) d (omega arith)) ∙ up_next (speed_steps (path_of bs)) i in
-      let w : (get_or xs i d).down ≡ (get_or (speed_steps (path_of bs)) i no_step).down = ap (λ (b : SampleBounds). b.down) (bounds_there i d (omega arith)) in
-      let t : Step = get_or (speed_steps (path_of bs)) i no_step in
-      ap (λ (k : ℕ). let s : Step = record { up = k; down = (get_or xs i d).down } in s) u ∙ ap (λ (k : ℕ). let s : Step = record { up = t.up; down = k } in s) w
+      let u : (get_or xs (i + 1) d).up ≡ (get_or (speed_steps p) i no_step).up = ap (λ (b : SampleBounds). b.up) (bounds_there (i + 1) d (omega arith)) ∙ up_next (speed_steps p) i in
+      let w : (get_or xs i d).down ≡ (get_or (speed_steps p) i no_step).down = ap (λ (b : SampleBounds). b.down) (bounds_there i d (omega arith)) in
+      let t : Step = get_or (speed_steps p) i no_step in
+      ap (λ (k : ℕ). let x : Step = record { up = k; down = (get_or xs i d).down } in x) u ∙ ap (λ (k : ℕ). let x : Step = record { up = t.up; down = k } in x) w
 
   -- ---- the first row at a gap
 
-  pub first_is : (g : ℕ) (d : SampleBounds) → g < length xs → (get_or xs g d).first_row ≡ rows_before g (rows_of (path_of bs))
+  pub first_is : (g : ℕ) (d : SampleBounds) → g < length xs → (get_or xs g d).first_row ≡ rows_before g (rows_of p)
   first_is g d l = ap (λ (b : SampleBounds). b.first_row) (bounds_there g d l)
 
-  pub first_within : (g : ℕ) (d : SampleBounds) → g < length xs → (get_or xs g d).first_row ≤ length (rows_of (path_of bs))
-  first_within g d l = omega (arith, first_is g d l, before_few g (rows_of (path_of bs)))
+  pub first_within : (g : ℕ) (d : SampleBounds) → g < length xs → (get_or xs g d).first_row ≤ length (rows_of p)
+  first_within g d l = omega (arith, first_is g d l, before_few g (rows_of p))
 
-  pub first_before : (g : ℕ) (d : SampleBounds) → g < length xs → (k : ℕ) → k < (get_or xs g d).first_row → (row_at (rows_of (path_of bs)) k).gap < g
+  pub first_before : (g : ℕ) (d : SampleBounds) → g < length xs → (k : ℕ) → k < (get_or xs g d).first_row → (row_at (rows_of p) k).gap < g
   first_before g d l k m =
-      let rows = rows_of (path_of bs) in
+      let rows = rows_of p in
       let i = first_is g d l in
-      before_lower (path_of bs).header.spacing g rows (rows_sound bs e) k (omega (arith, before_few g rows)) (omega arith)
+      before_lower p.header.spacing g rows (rows_sound bs s.frame.sound) k (omega (arith, before_few g rows)) (omega arith)
 
-  pub first_found : (g : ℕ) (d : SampleBounds) → g < length xs → (get_or xs g d).first_row < length (rows_of (path_of bs)) → g ≤ (row_at (rows_of (path_of bs)) (get_or xs g d).first_row).gap
+  pub first_found : (g : ℕ) (d : SampleBounds) → g < length xs → (get_or xs g d).first_row < length (rows_of p) → g ≤ (row_at (rows_of p) (get_or xs g d).first_row).gap
   first_found g d l m =
-      let rows = rows_of (path_of bs) in
+      let rows = rows_of p in
       let k = (get_or xs g d).first_row in
-      before_upper (path_of bs).header.spacing g rows (rows_sound bs e) k m (omega (arith, first_is g d l))
+      before_upper p.header.spacing g rows (rows_sound bs s.frame.sound) k m (omega (arith, first_is g d l))
 
--- ---- the two inequalities of a row
+  -- ---- the two inequalities of a row, each constant as memory holds it
 
-module _ (p : Path) (ys : List RowBounds) (is : ys ≡ row_bounds_of p) where
   pub rows_many : length ys ≡ length (rows_of p)
-  rows_many = ap length is ∙ length-row_bounds_of p
+  rows_many = ap length s.rowed ∙ length-row_bounds_of p
 
   row_there : (k : ℕ) (d : RowBounds) → k < length (rows_of p) → get_or ys k d ≡ bounds_of_row p.header.spacing (row_at (rows_of p) k)
-  row_there k d l = ap (λ (zs : List RowBounds). get_or zs k d) is ∙ row_bounds_at p k d l
+  row_there k d l = ap (λ (zs : List RowBounds). get_or zs k d) s.rowed ∙ row_bounds_at p k d l
 
-  -- the same with the constant as memory holds it
   pub right_kept : (k : ℕ) (d : RowBounds) → k < length (rows_of p) → SFits w64 (get_or ys k d).right
       → record { own = (get_or ys k d).after; near = (get_or ys k d).before; constant = to_z w64 (of_z w64 (get_or ys k d).right) } ≡ on_right_of p.header.spacing (row_at (rows_of p) k)
   right_kept k d l f =

@@ -1,6 +1,5 @@
-use Rattle.frame.specs.Views.{path_of}
 use Rattle.prepared.proofs.Reading.{rows_many}
 use Rattle.prepared.proofs.rows.PreparedRows.len.Goals as goal
 
 pub returns : goal.returns
-returns c = let s = c.args.self.now in rows_many (path_of s.frame.bytes.now) s.rows.now s.rowed
+returns c = let s = c.args.self.now in rows_many s

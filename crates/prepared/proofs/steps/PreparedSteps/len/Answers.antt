@@ -3,4 +3,4 @@ use Rattle.prepared.proofs.Reading.{steps_many}
 use Rattle.prepared.proofs.steps.PreparedSteps.len.Goals as goal
 
 pub returns : goal.returns
-returns c = let s = c.args.self.now in c.saturating_sub.ensures ∙ sym (steps_many s.frame.bytes.now s.frame.sound s.samples.now s.sampled)
+returns c = let s = c.args.self.now in c.saturating_sub.ensures ∙ sym (steps_many s)
