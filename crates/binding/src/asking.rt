@@ -13,7 +13,7 @@ use super::ramps::first_ramp;
 use super::rows::first_row;
 use grade::{Cell, Class, Speed};
 use limit::Limit;
-use motion::{Offsets, Ramp, Rows, SpeedLimit, Steps};
+use motion::{Offsets, Ramp, Sides, SpeedLimit, Steps};
 
 // The cap, and the two halves of the ramp. Apart from the next, since a class has no class table, average or rows; the
 // question, limit, cells and number are handed on as they came, through calls that each add a bound.
@@ -30,7 +30,7 @@ pub(crate) fn first_in_classes<S: Steps>(
 }
 
 // The cap, what the class grants, the two halves of the ramp, the average and the torque rows.
-pub(crate) fn first_in_speeds<S: Steps, Q: Offsets, R: Rows>(
+pub(crate) fn first_in_speeds<S: Steps, Q: Offsets, R: Sides>(
     question: Question,
     cap: Speed,
     granted: Speed,

@@ -12,10 +12,10 @@ use super::bound::{Bound, Found};
 use super::question::{Question, judge, rank_of};
 use grade::{Cell, Speed};
 use limit::Limit;
-use motion::{Rows, Torque, row_bound};
+use motion::{Sides, Torque, row_bound};
 
 // The rows are asked one by one only where the least of them leaves room for a yes.
-pub(crate) fn first_row<R: Rows>(
+pub(crate) fn first_row<R: Sides>(
     question: Question,
     limit: &Torque<R>,
     cells: &[Cell<Speed>],

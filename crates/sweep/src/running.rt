@@ -33,12 +33,14 @@ pub fn sweep_on<G: Grade, L: Limit<G>>(
     ensures passes { Passes G.Grade.rank (L.Limit.number limit.now) sweep result.sweep cells.old cells.new (result.sweep.visited - sweep.visited) result.lowerings }
 {
     let visited = sweep.visited;
-    if visited == 0 {
+    if visited == 0 || cells.len() - 1 > limit.span() {
         return Run {
             sweep,
             lowerings: 0,
         };
     }
+    // Its own copy of the limit, which no writing to the cells can change.
+    let limit = *limit;
     let end = (cells.len() - 1).min(visited.saturating_add(most));
     let marked = sweep.marked;
     match sweep.direction {
@@ -49,7 +51,7 @@ pub fn sweep_on<G: Grade, L: Limit<G>>(
                 visited,
                 marked,
             };
-            run_to(cells, limit, sweep, end)
+            run_to(cells, &limit, sweep, end)
         }
         Direction::Falling => {
             let direction = Direction::Falling;
@@ -58,7 +60,7 @@ pub fn sweep_on<G: Grade, L: Limit<G>>(
                 visited,
                 marked,
             };
-            run_to(cells, limit, sweep, end)
+            run_to(cells, &limit, sweep, end)
         }
     }
 }
@@ -69,6 +71,7 @@ fn run_to<G: Grade, L: Limit<G>>(cells: &mut [Cell<G>], limit: &L, sweep: Sweep,
     requires begun { 1 ≤ sweep.visited }
     requires ahead { sweep.visited ≤ end }
     requires short { end < length cells.old }
+    requires spanned { length cells.old - 1 ≤ L.Limit.span limit.now }
     ensures within { (sweep.visited ≤ result.sweep.visited) × (result.sweep.visited ≤ end) }
     ensures fewer { sweep.visited + result.lowerings ≤ result.sweep.visited }
     ensures passes { Passes G.Grade.rank (L.Limit.number limit.now) sweep result.sweep cells.old cells.new (result.sweep.visited - sweep.visited) result.lowerings }
