@@ -3,7 +3,6 @@
 ghost use Rattle.std.specs.Prelude.{◌≡◌, ◌+◌, ◌-◌, ◌<◌, ◌≤◌, length};
 ghost use Rattle.sweep.specs.Passes.{Passes, finds_room, gone};
 
-use super::step::lowering_of;
 use super::sweeping::Pass;
 use super::visiting::visit_between;
 use grade::{Cell, Grade};
@@ -88,45 +87,24 @@ fn run_to<G: Grade, L: Limit<G>>(cells: &mut [Cell<G>], limit: &L, sweep: Sweep,
         }
         .next_sample();
         let found = visit_between(cells, limit, at, near);
-        if !finds_room(found.finding) {
-            return Run {
-                sweep: passed,
-                lowerings,
-            };
+        match found.finding {
+            Finding::Keeps => {}
+            Finding::Lowers(_) => {
+                lowerings += 1;
+                passed.marked = true;
+            }
+            Finding::Clashes => {
+                return Run {
+                    sweep: passed,
+                    lowerings,
+                };
+            }
         }
-        lowerings += lowering_of(found.finding);
-        passed = onward(passed, found.finding);
+        passed.visited = visited + 1;
         near = found.near;
     }
     Run {
         sweep: passed,
         lowerings,
-    }
-}
-
-// Does a finding leave the value room?
-fn finds_room(finding: Finding) -> bool
-    ensures { result ≡ finds_room finding }
-{
-    match finding {
-        Finding::Keeps | Finding::Lowers(_) => true,
-        Finding::Clashes => false,
-    }
-}
-
-// The sweep one visit later.
-fn onward(sweep: Sweep, finding: Finding) -> Sweep
-    requires { sweep.visited < u64.MAX }
-    ensures { result ≡ gone finding sweep }
-{
-    let lowered = match finding {
-        Finding::Keeps => false,
-        Finding::Lowers(_) => true,
-        Finding::Clashes => return sweep,
-    };
-    Sweep {
-        direction: sweep.direction,
-        visited: sweep.visited + 1,
-        marked: lowered || sweep.marked,
     }
 }
