@@ -9,7 +9,7 @@ use super::limits::Limits;
 use grade::{Cell, Class, Speed};
 use limit::Limit;
 use runs::{Make, Stage};
-use sweep::{Run, sweep_on};
+use sweep::sweep_on;
 
 // How many evaluations were made, and how many of them lowered a value.
 #[derive(Clone, Copy, Debug, PartialEq, Eq)]
@@ -34,36 +34,19 @@ impl Job {
         ensures fewer { result.lowerings ≤ result.evaluations }
         ensures went { (k : ℕ) → let σ = setting self.old.samples.count (C.Limit.number limits.now.classes.now) (S.Limit.number limits.now.speeds.now) in advanced σ (result.evaluations + k) (whole self.old classes.old speeds.old) ≡ further result.evaluations result.lowerings (advanced σ k (whole self.new classes.new speeds.new)) }
     {
-        match self.stage {
+        let visited = self.sweep.visited;
+        let lowerings = match self.stage {
             Stage::Working(Make::Classes) => {
-                let run = sweep_on(classes, limits.classes, self.sweep, most as usize);
-                self.take(run)
+                sweep_on(classes, limits.classes, &mut self.sweep, most as usize)
             }
             Stage::Working(Make::Speeds) => {
-                let run = sweep_on(speeds, limits.speeds, self.sweep, most as usize);
-                self.take(run)
+                sweep_on(speeds, limits.speeds, &mut self.sweep, most as usize)
             }
-            Stage::Settled | Stage::Impossible(_) => Made {
-                evaluations: 0,
-                lowerings: 0,
-            },
-        }
-    }
-
-    // The sweep has come so far.
-    fn take(&mut self, run: Run) -> Made
-        requires ahead { self.old.sweep.visited ≤ run.sweep.visited }
-        requires going { run.sweep.visited < self.old.samples.count }
-        ensures samples { self.new.samples ≡ self.old.samples }
-        ensures stage { self.new.stage ≡ self.old.stage }
-        ensures sweep { self.new.sweep ≡ run.sweep }
-        ensures made { result ≡ record { evaluations = run.sweep.visited - self.old.sweep.visited; lowerings = run.lowerings } }
-    {
-        let visited = self.sweep.visited;
-        self.sweep = run.sweep;
+            Stage::Settled | Stage::Impossible(_) => 0,
+        };
         Made {
-            evaluations: (run.sweep.visited - visited) as u64,
-            lowerings: run.lowerings,
+            evaluations: (self.sweep.visited - visited) as u64,
+            lowerings,
         }
     }
 }

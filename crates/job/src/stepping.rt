@@ -33,7 +33,12 @@ impl Job {
     {
         match (self.stage, outcome) {
             (Stage::Working(_), Outcome::Stuck) => self.stage = Stage::Impossible(at),
-            (Stage::Working(_), Outcome::Onward(sweep)) => self.sweep = sweep,
+            // Field by field: a whole struct is moved with what lies between its fields, and would be waited for.
+            (Stage::Working(_), Outcome::Onward(sweep)) => {
+                self.sweep.direction = sweep.direction;
+                self.sweep.visited = sweep.visited;
+                self.sweep.marked = sweep.marked;
+            }
             (Stage::Working(Make::Classes), Outcome::Ended) => {
                 self.stage = pour(classes, speeds);
                 self.sweep = FRESH;

@@ -1,6 +1,6 @@
 -- The number of a limit at a sample of a profile: the rank of the greatest grade that fits there, or −1 where nothing fits.
 use Rattle.std.specs.Prelude.{◌≡◌, ℕ, ◌<◌, ◌≤◌, ◌↔◌, length, ℤ, pos, negsuc, ◌≤ℤ◌, Some, None, Option}
-use Rattle.std.specs.Int.{int_min}
+use Rattle.std.specs.Int.{int_min, int_max}
 use Rattle.grade.specs.Profiles.{Profile, rank, Within, AtMost}
 
 -- the meaning of a limit: a number for each profile and sample
@@ -26,6 +26,19 @@ pub record LimitLaw (top : ℕ) (number : Number) : Type 0 where
   pub high : (p : Profile) (i : ℕ) → Within top p → number p i ≤ℤ pos top
   pub outside : (p : Profile) (i : ℕ) → Within top p → length p ≤ i → number p i ≡ pos top
   pub monotone : Rule top number
+
+-- every number below −1 says what −1 does: nothing fits
+abbrev pub clamped : ℤ → ℤ
+clamped z = int_max (negsuc 0) z
+
+-- the least number that a limit is asked to go no further than; so wide are numbers below 0 that sums and products may have
+abbrev pub least_asked : ℤ
+least_asked = negsuc 2147483647
+
+-- the answer r to a limit whose number is z, asked no further than a number: the lesser of the two
+pub record AsFar (most z r : ℤ) : Type 0 where
+  pub lesser : clamped r ≡ int_min (clamped most) z
+  pub least : least_asked ≤ℤ r
 
 -- a rank that the limit allows at a sample, the profile as it is
 abbrev pub Allows : Number → Profile → ℕ → ℕ → Type 0

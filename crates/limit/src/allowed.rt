@@ -6,7 +6,7 @@ use grade::Grade;
 
 #[derive(Clone, Copy, Debug, PartialEq, Eq)]
 pub struct Allowed {
-    // The rank of a grade, or −1 where nothing fits.
+    // The rank of a grade, or a number below 0 where nothing fits.
     pub number: i64,
     // Where the limit found what bounds the sample.
     pub near: usize,

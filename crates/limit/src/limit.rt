@@ -3,7 +3,7 @@ ghost use Rattle.std.specs.Prelude.{◌≡◌, ℕ, ◌+◌, ◌<◌, ◌≤◌,
 ghost use Rattle.std.specs.Int.{int_min};
 ghost use Rattle.grade.specs.Profiles.{Profile, Within};
 ghost use Rattle.grade.specs.Ranks.{ranks};
-ghost use Rattle.limit.specs.Numbers.{Number, number_of, Rule, LimitLaw};
+ghost use Rattle.limit.specs.Numbers.{Number, number_of, least_asked, AsFar, Rule, LimitLaw};
 
 use super::allowed::{Allowed, number_of};
 use grade::{Cell, Grade};
@@ -27,15 +27,16 @@ pub trait Limit<G: Grade>: Copy {
         0
     }
 
-    // The number of a sample between two others, as far as a number: the lesser of the two. `near` is where the limit found
-    // what bounds the sample before this one, so that it need not search; the answer is the same wherever that is.
+    // The number of a sample between two others, as far as a number: the lesser of the two, or any number below 0 where nothing
+    // fits. `near` is where the limit found what bounds the sample before this one, so that it need not search; the answer is
+    // the same wherever that is.
     fn within(&self, cells: &[Cell<G>], at: usize, most: i64, near: usize) -> Allowed
         requires after_first { 1 ≤ at }
         requires before_last { at + 1 < length cells.now }
         requires spanned { at < span self.now }
-        requires least { negsuc 0 ≤ℤ most }
+        requires least { least_asked ≤ℤ most }
         requires top { most ≤ℤ pos G.Grade.top }
-        ensures { result.number ≡ int_min most (number self.now (ranks G.Grade.rank cells.now) at) }
+        ensures { AsFar most (number self.now (ranks G.Grade.rank cells.now) at) result.number }
     {
         Allowed {
             number: most.min(number_of(self.evaluate(cells, at))),

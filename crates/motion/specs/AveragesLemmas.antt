@@ -1,16 +1,31 @@
 -- An average keeps the rule, and is kept exactly by the profiles that are averaged.
 use Rattle.std.specs.Prelude.{◌≡◌, ℕ, ◌+◌, ◌-◌, ◌<◌, ◌≤◌, Bool, ◌&&◌, ◌↔◌, List, length, ℤ, pos, negsuc, ◌≤ℤ◌, nat_lt}
-use Rattle.std.proofs.Common.{arith}
+use Rattle.std.proofs.Common.{arith, w64, SFits}
+use Rattle.std.specs.Int.{int_min}
+use Rattle.std.specs.Int.Signed.{shr_z}
 use Rattle.std.proofs.lemmas.Int.{ints, clamps}
 use Rattle.std.proofs.lemmas.Bool.Decides.{nat_tests}
 use Rattle.std.proofs.lemmas.Bool.{cond-true, lt-ltb, ltb-true, and_parts, and_from}
 use Rattle.grade.specs.Profiles.{Profile, rank}
-use Rattle.limit.specs.Numbers.{KeptExactly}
+use Rattle.limit.specs.Numbers.{clamped, least_asked, KeptExactly}
 use Rattle.grade.specs.Tops.{speed_top}
 use Rattle.motion.specs.Floors.{floored}
 use Rattle.motion.specs.Averages.{around, average, WithinAverage, WithinAverageAt}
 use Rattle.motion.specs.FloorsLemmas.{floored_high, floored_mono, under_floored}
 use Rattle.limit.specs.NumbersLemmas.{where_high, where_mono, under_where}
+
+-- half a sum, rounded down, is the floor; below 0 it may be any number
+pub half_within : (most n : ℤ) → most ≤ℤ pos speed_top → clamped (int_min most (shr_z n 2)) ≡ int_min (clamped most) (floored 2 n)
+half_within most (pos n) high = omega (arith, ints, clamps)
+half_within most (negsuc n) high = omega (arith, ints, clamps)
+
+pub half_fits : (n : ℤ) → SFits w64 n → SFits w64 (shr_z n 2)
+half_fits (pos n) fits = omega (arith, ints)
+half_fits (negsuc n) fits = omega (arith, ints)
+
+pub half_least : (n : ℤ) → least_asked ≤ℤ n → least_asked ≤ℤ shr_z n 2
+half_least (pos n) low = omega (arith, ints)
+half_least (negsuc n) low = omega (arith, ints)
 
 module _ (qs : List ℤ) where
   abbrev inner : Profile → ℕ → Bool

@@ -7,7 +7,7 @@ ghost use Rattle.motion.specs.Averages.{average, WithinAverage, WithinAverageAt}
 ghost use Rattle.motion.specs.AveragesLemmas.{average_low, average_high, average_outside, average_mono};
 ghost use Rattle.grade.proofs.Ranking.{at_most_everywhere};
 
-use super::floor::{floor_bound, floor_number};
+use super::floor::floor_bound;
 use super::offsets::Offsets;
 use super::reading::{samples, unbounded, value};
 use grade::{Cell, Grade, Speed};
@@ -53,7 +53,7 @@ impl<Q: Offsets> Limit<Speed> for Average<Q> {
         let before = value(cells, at - 1);
         let sum = sum(before, value(cells, at + 1), self.offsets.offset(at));
         Allowed {
-            number: most.min(floor_number(TWICE, sum)),
+            number: most.min(sum >> 1),
             near,
         }
     }

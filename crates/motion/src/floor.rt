@@ -1,9 +1,8 @@
 // The flooring leaf: the greatest squared speed that a factor leaves room for.
-ghost use Rattle.std.specs.Prelude.{◌≡◌, ◌*◌, ◌/◌, ◌≤◌, min, pos, negsuc, ◌≤ℤ◌};
-ghost use Rattle.std.specs.Int.{int_min};
+ghost use Rattle.std.specs.Prelude.{◌≡◌, ◌*◌, ◌/◌, ◌≤◌, min, pos, ◌≤ℤ◌};
 ghost use Rattle.grade.specs.Ranks.{speed_rank};
 ghost use Rattle.grade.specs.Tops.{speed_top};
-ghost use Rattle.limit.specs.Numbers.{number_of, Greatest};
+ghost use Rattle.limit.specs.Numbers.{number_of, least_asked, AsFar, Greatest};
 ghost use Rattle.motion.specs.Floors.{floored};
 
 use grade::{Grade, Speed};
@@ -21,29 +20,18 @@ pub(crate) fn floor_bound(factor: u32, n: i64) -> Option<Speed>
     Some(floored_quotient(factor, n as u64))
 }
 
-// The lesser of a number up to the top and the greatest g up to the top with factor × g ≤ n, −1 where n is negative. It divides
-// only where the number is too great.
+// The greatest g up to the top with factor × g ≤ n, nothing where n is negative, as far as a number. It divides only where the
+// number is too great.
 #[inline(always)]
 pub(crate) fn floor_within(factor: u32, n: i64, most: i64) -> i64
     requires some { 1 ≤ factor }
-    requires least { negsuc 0 ≤ℤ most }
+    requires least { least_asked ≤ℤ most }
     requires top { most ≤ℤ pos speed_top }
-    ensures { result ≡ int_min most (floored factor n) }
+    ensures { AsFar most (floored factor n) result }
 {
     if factor as i64 * most <= n {
         most
-    } else {
-        floor_number(factor, n)
-    }
-}
-
-// The greatest g with factor × g ≤ n, as high as it may be, −1 where n is negative.
-#[inline(always)]
-pub(crate) fn floor_number(factor: u32, n: i64) -> i64
-    requires { 1 ≤ factor }
-    ensures { int_min (pos speed_top) result ≡ floored factor n }
-{
-    if n < 0 {
+    } else if n < 0 {
         NOTHING
     } else {
         (n as u64 / factor as u64) as i64

@@ -2,11 +2,10 @@
 // own × (the bounded sample) ≤ near × (its neighbour) + constant.
 // All fit 64 bits signed: own and near are at most 2^24 and a squared speed is below 2^31, so near × (its neighbour) is
 // below 2^55; the constant, 2h times a difference of two numbers of a row, is at most 2^49; the sum stays below 2^56.
-ghost use Rattle.std.specs.Prelude.{◌≡◌, pos, negsuc, ◌≤ℤ◌};
-ghost use Rattle.std.specs.Int.{int_min};
+ghost use Rattle.std.specs.Prelude.{◌≡◌, pos, ◌≤ℤ◌};
 ghost use Rattle.grade.specs.Ranks.{speed_rank};
 ghost use Rattle.grade.specs.Tops.{speed_top};
-ghost use Rattle.limit.specs.Numbers.{number_of};
+ghost use Rattle.limit.specs.Numbers.{number_of, least_asked, AsFar};
 ghost use Rattle.motion.specs.Torques.{Fit, bound};
 
 use super::floor::{floor_bound, floor_within};
@@ -29,13 +28,13 @@ impl Triple {
         floor_bound(self.own, share as i64 + self.constant)
     }
 
-    // The same as far as a number.
+    // The same, as far as a number.
     #[inline(always)]
     pub(crate) fn within(self, neighbour: Speed, most: i64) -> i64
         requires fits { Fit self }
-        requires least { negsuc 0 ≤ℤ most }
+        requires least { least_asked ≤ℤ most }
         requires top { most ≤ℤ pos speed_top }
-        ensures { result ≡ int_min most (bound self (speed_rank neighbour)) }
+        ensures { AsFar most (bound self (speed_rank neighbour)) result }
     {
         let share = self.near as u64 * neighbour.rank() as u64;
         floor_within(self.own, share as i64 + self.constant, most)

@@ -1,7 +1,7 @@
 // A frame prepared: both memories filled at their fronts.
-ghost use Rattle.std.specs.Prelude.{◌≡◌, length};
+ghost use Rattle.std.specs.Prelude.{◌≡◌, true, length};
 ghost use Rattle.frame.specs.Views.{path_of};
-ghost use Rattle.prepared.specs.Lists.{sample_bounds_of, row_bounds_of, has_room, written};
+ghost use Rattle.prepared.specs.Lists.{sample_bounds_of, row_bounds_of, has_room, written, Begins};
 
 use super::bounds::{RowBounds, SampleBounds};
 use super::row_filling::fill_rows;
@@ -14,6 +14,7 @@ pub fn prepare(frame: PathFrame<'_>, samples: &mut [SampleBounds], rows: &mut [R
     ensures is { result ≡ has_room (path_of frame.entry.bytes.now) (length samples.old) (length rows.old) }
     ensures samples { samples.new ≡ written result (sample_bounds_of (path_of frame.entry.bytes.now)) samples.old }
     ensures rows { rows.new ≡ written result (row_bounds_of (path_of frame.entry.bytes.now)) rows.old }
+    ensures ready { result ≡ true → Begins (sample_bounds_of (path_of frame.entry.bytes.now)) samples.new × Begins (row_bounds_of (path_of frame.entry.bytes.now)) rows.new }
 {
     let header = frame.header();
     if samples.len() < header.samples as usize || rows.len() < header.rows as usize {

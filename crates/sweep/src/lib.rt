@@ -12,7 +12,7 @@ mod visiting;
 
 pub use beginning::{begin, check};
 pub use changing::{Cutting, Lifting, cut_cell, lift_cell};
-pub use running::{Run, sweep_on};
+pub use running::sweep_on;
 pub use step::Step;
 pub use stepping::sweep_step;
 pub use sweeping::{FRESH, Outcome};

@@ -3,7 +3,6 @@
 ghost use Rattle.std.specs.Prelude.{◌≡◌, ◌+◌, ◌-◌, ◌<◌, ◌≤◌, length};
 ghost use Rattle.sweep.specs.Passes.{Passes, finds_room, gone};
 
-use super::step::lowering_of;
 use super::sweeping::Pass;
 use super::visiting::visit_between;
 use grade::{Cell, Grade};
@@ -11,40 +10,37 @@ use limit::Limit;
 use runs::{Direction, Finding, Sweep};
 
 #[derive(Clone, Copy, Debug, PartialEq, Eq)]
-pub struct Run {
+struct Run {
     // The sweep after it.
-    pub sweep: Sweep,
+    sweep: Sweep,
     // How many values it lowered.
-    pub lowerings: u64,
+    lowerings: u64,
 }
 
-// Visits at most so many samples. The two ways apart, each with its direction written out: a compiler makes of each a loop
-// of its own, and no part of what calls it, so that it has the registers for itself.
+// Visits at most so many samples, and says how many values it lowered. The two ways apart, each with its direction written out:
+// a compiler makes of each a loop of its own, and no part of what calls it, so that it has the registers for itself.
 #[inline(never)]
 pub fn sweep_on<G: Grade, L: Limit<G>>(
     cells: &mut [Cell<G>],
     limit: &L,
-    sweep: Sweep,
+    sweep: &mut Sweep,
     most: usize,
-) -> Run
-    requires { sweep.visited < length cells.old }
-    ensures goes { result.sweep.visited < length cells.old }
-    ensures within { (sweep.visited ≤ result.sweep.visited) × (result.sweep.visited ≤ sweep.visited + most) }
-    ensures fewer { sweep.visited + result.lowerings ≤ result.sweep.visited }
-    ensures passes { Passes G.Grade.rank (L.Limit.number limit.now) sweep result.sweep cells.old cells.new (result.sweep.visited - sweep.visited) result.lowerings }
+) -> u64
+    requires { sweep.old.visited < length cells.old }
+    ensures goes { sweep.new.visited < length cells.old }
+    ensures within { (sweep.old.visited ≤ sweep.new.visited) × (sweep.new.visited ≤ sweep.old.visited + most) }
+    ensures fewer { sweep.old.visited + result ≤ sweep.new.visited }
+    ensures passes { Passes G.Grade.rank (L.Limit.number limit.now) sweep.old sweep.new cells.old cells.new (sweep.new.visited - sweep.old.visited) result }
 {
     let visited = sweep.visited;
     if visited == 0 || cells.len() - 1 > limit.span() {
-        return Run {
-            sweep,
-            lowerings: 0,
-        };
+        return 0;
     }
     // Its own copy of the limit, which no writing to the cells can change.
     let limit = *limit;
     let end = (cells.len() - 1).min(visited.saturating_add(most));
     let marked = sweep.marked;
-    match sweep.direction {
+    let run = match sweep.direction {
         Direction::Rising => {
             let direction = Direction::Rising;
             let sweep = Sweep {
@@ -63,7 +59,9 @@ pub fn sweep_on<G: Grade, L: Limit<G>>(
             };
             run_to(cells, &limit, sweep, end)
         }
-    }
+    };
+    *sweep = run.sweep;
+    run.lowerings
 }
 
 // Visits samples until so many are visited in all.
@@ -88,45 +86,24 @@ fn run_to<G: Grade, L: Limit<G>>(cells: &mut [Cell<G>], limit: &L, sweep: Sweep,
         }
         .next_sample();
         let found = visit_between(cells, limit, at, near);
-        if !finds_room(found.finding) {
-            return Run {
-                sweep: passed,
-                lowerings,
-            };
+        match found.finding {
+            Finding::Keeps => {}
+            Finding::Lowers(_) => {
+                lowerings += 1;
+                passed.marked = true;
+            }
+            Finding::Clashes => {
+                return Run {
+                    sweep: passed,
+                    lowerings,
+                };
+            }
         }
-        lowerings += lowering_of(found.finding);
-        passed = onward(passed, found.finding);
+        passed.visited = visited + 1;
         near = found.near;
     }
     Run {
         sweep: passed,
         lowerings,
-    }
-}
-
-// Does a finding leave the value room?
-fn finds_room(finding: Finding) -> bool
-    ensures { result ≡ finds_room finding }
-{
-    match finding {
-        Finding::Keeps | Finding::Lowers(_) => true,
-        Finding::Clashes => false,
-    }
-}
-
-// The sweep one visit later.
-fn onward(sweep: Sweep, finding: Finding) -> Sweep
-    requires { sweep.visited < u64.MAX }
-    ensures { result ≡ gone finding sweep }
-{
-    let lowered = match finding {
-        Finding::Keeps => false,
-        Finding::Lowers(_) => true,
-        Finding::Clashes => return sweep,
-    };
-    Sweep {
-        direction: sweep.direction,
-        visited: sweep.visited + 1,
-        marked: lowered || sweep.marked,
     }
 }

@@ -1,6 +1,4 @@
-use Rattle.std.proofs.Common.{◌≡◌, ◌/◌, pos, nat_abs, ◌*ℤ◌, ◌<◌, ◌^◌, arith, w64, SFits}
-use Rattle.std.specs.Int.{int_min}
-use Rattle.motion.specs.Floors.{floored}
+use Rattle.std.proofs.Common.{◌≡◌, ◌*◌, ◌/◌, ◌<◌, ◌^◌, nat_abs, pos, ◌*ℤ◌, arith, w64, SFits}
 use Rattle.std.proofs.lemmas.Int.{ints, clamps, to_z-of_z, to_z_pos}
 use Rattle.motion.proofs.Flooring.{le_true, le_false, stays_at, falls_to, product_fits}
 use Rattle.motion.proofs.floor.floor_within.Goals as goal
@@ -11,15 +9,15 @@ returns-then-factor-most c =
     let fn = c.ranges.n in
     let l : c.args.factor < 2 ^ 63 = omega (arith, c.ranges.factor) in
     let p = product_fits c.args.factor c.args.most (omega (arith, c.ranges.factor)) c.requires.least c.requires.top in
-    simp (to_z-of_z, to_z_pos) (stays_at c.args.factor c.requires.some c.args.most c.args.n c.requires.least c.requires.top
-    (le_true _ _ (simp (to_z-of_z, to_z_pos) at c.if-factor-most.true)))
+    simp to_z-of_z (stays_at c.args.factor c.requires.some c.args.most c.args.n c.requires.least c.requires.top (le_true _ _ (simp (to_z-of_z, to_z_pos) at c.if-factor-most.true)))
 
-pub returns-else-factor-most : goal.returns-else-factor-most
-returns-else-factor-most c =
+pub returns-else-n-lt0 : goal.returns-else-n-lt0
+returns-else-n-lt0 c =
     let f : SFits w64 c.args.most = omega (arith, ints, c.requires.least, c.requires.top) in
     let fn = c.ranges.n in
     let l : c.args.factor < 2 ^ 63 = omega (arith, c.ranges.factor) in
     let p = product_fits c.args.factor c.args.most (omega (arith, c.ranges.factor)) c.requires.least c.requires.top in
-    let answer : SFits w64 c.floor_number.result = omega (arith, ints, c.floor_number.type_inv) in
     let above = le_false (pos c.args.factor *ℤ c.args.most) c.args.n (simp (to_z-of_z, to_z_pos) at c.if-factor-most.false) in
-    simp to_z-of_z (falls_to c.args.factor c.requires.some c.args.most c.args.n c.floor_number.result c.requires.least c.requires.top above (simp to_z-of_z at c.floor_number.ensures))
+    let far = falls_to c.args.factor c.requires.some c.args.most c.args.n c.requires.least c.requires.top (simp to_z-of_z at c.if-n-lt0.false) above in
+    let small : nat_abs c.args.n / c.args.factor < 2 ^ 63 = omega (arith, ints, clamps, c.requires.top, far.lesser) in
+    simp (to_z-of_z, to_z_pos) far

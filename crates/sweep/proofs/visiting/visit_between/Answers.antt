@@ -2,18 +2,11 @@ use Rattle.std.proofs.Common.{◌≡◌, ◌<◌, ◌^◌, max, length, get_or, 
 use Rattle.std.specs.Int.{int_min}
 use Rattle.std.proofs.lemmas.Int.{ints, clamps, to_z-of_z, to_z_pos}
 use Rattle.grade.specs.Ranks.{ranked, ranks}
-use Rattle.grade.proofs.Ranking.{ranks_within}
+use Rattle.limit.specs.Numbers.{clamped}
 use Rattle.runs.specs.Evaluations.{found}
 use Rattle.sweep.proofs.Passing.{found_within}
 use Rattle.sweep.proofs.Reading.{visits, cell_ranked, cell_read}
 use Rattle.sweep.proofs.visiting.visit_between.Goals as goal
-
-pub settle-requires-clause-least : goal.settle-requires-clause-least
-settle-requires-clause-least g c =
-    let low = g.met.L.Limit.low c.args.limit.now _ c.args.at (ranks_within g.G.Grade.rank g.G.Grade.top g.met.G.Grade.within c.args.cells.now) in
-    let most : c.rank-most.result < 2 ^ 63 = omega (arith, c.rank-most.type_inv) in
-    let e = c.within-allowed.ensures in
-    omega (arith, ints, clamps, low, e, to_z_pos w64 c.rank-most.result most)
 
 pub returns : goal.returns
 returns g c =
@@ -26,11 +19,11 @@ returns g c =
     let here : cell ≡ ranked rank c.index-cells-at.result =
     sym (cell_ranked rank cells c.args.at written h) ∙ cell_read rank cells c.args.at c.index-cells-at.result c.index-cells-at.is h in
     let most : c.rank-most.result < 2 ^ 63 = omega (arith, c.rank-most.type_inv) in
-    let number : c.within-allowed.result.number ≡ int_min (pos c.rank-most.result) z = simp to_z_pos at c.within-allowed.ensures in
-    let fits : SFits w64 c.within-allowed.result.number =
-    omega (arith, ints, clamps, number, most, g.met.L.Limit.low c.args.limit.now _ c.args.at (ranks_within rank g.G.Grade.top g.met.G.Grade.within cells)) in
+    let lesser : clamped c.within-allowed.result.number ≡ int_min (clamped (pos c.rank-most.result)) z = simp to_z_pos at c.within-allowed.ensures.lesser in
+    let number : clamped c.within-allowed.result.number ≡ int_min (pos c.rank-most.result) z = omega (arith, ints, clamps, lesser) in
+    let fits : SFits w64 c.within-allowed.result.number = omega (arith, ints, clamps, number, most, c.within-allowed.ensures.least) in
     let top : c.rank-most.result ≡ max cell.value cell.floor = c.rank-most.ensures ∙ c.higher.ensures ∙ ap (λ x. max x.value x.floor) (sym here) in
-    let finding : c.settle.result ≡ found cell c.within-allowed.result.number = simp to_z-of_z at c.settle.ensures.finding in
+    let finding : c.settle.result ≡ found cell (clamped c.within-allowed.result.number) = simp to_z-of_z at c.settle.ensures.finding in
     visits rank cells c.args.at (g.L.Limit.number c.args.limit.now) written c.settle.new.cell z c.settle.result h refl
     (finding ∙ ap (found cell) (number ∙ ap (λ n. int_min (pos n) z) top) ∙ found_within cell z)
     c.settle.ensures.cell
