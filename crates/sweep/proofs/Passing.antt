@@ -1,5 +1,5 @@
 -- Visits one after another, as an advance makes them.
-use Rattle.std.proofs.Common.{◌≡◌, ℕ, zero, suc, ◌+◌, ◌-◌, ◌<◌, ◌≤◌, max, Bool, true, false, cond, ltb, List, length, set, ℤ, pos, negsuc, sym, refl, ap, ◌∙◌, arith}
+use Rattle.std.proofs.Common.{◌≡◌, ℕ, zero, suc, ◌+◌, ◌-◌, ◌<◌, ◌≤◌, Bool, true, false, cond, ltb, List, length, set, ℤ, pos, negsuc, sym, refl, ap, ◌∙◌, arith}
 use Rattle.std.specs.Int.{int_min}
 use Rattle.std.proofs.lemmas.Bool.{cond-true, lt-ltb}
 use Rattle.std.proofs.lemmas.Bool.Decides.{nat_tests}
@@ -21,11 +21,11 @@ use Rattle.runs.specs.Calls.{Course, counted, advanced}
 use Rattle.sweep.specs.Visits.{found_at, lowered, Visited}
 use Rattle.sweep.specs.Passes.{replaced, further, gone, finds_room, Passes}
 
--- asked no further than value and floor, a limit means the same for a cell
-pub found_within : (c : Cell ℕ) (z : ℤ) → found c (int_min (pos (max c.value c.floor)) z) ≡ found c z
+-- asked no further than a value that is not below its floor, a limit means the same for a cell
+pub found_within : (c : Cell ℕ) (z : ℤ) → c.floor ≤ c.value → found c (int_min (pos c.value) z) ≡ found c z
 unfolding found
-found_within c (pos r) = grind (arith, ints, clamps, nat_tests)
-found_within c (negsuc n) = refl
+found_within c (pos r) above = grind (arith, ints, clamps, nat_tests)
+found_within c (negsuc n) above = refl
 
 same_sheet : (m : Make) (S : Sheets) → replaced m (sheet S m) S ≡ S
 same_sheet Classes S = refl

@@ -1,6 +1,7 @@
-// A run: visits within a sweep to samples between two others, as long as each finds room. It ends before the sweep does, and
-// before a visit that would find no room, so that a step takes it up from there.
+// A run: visits within a sweep to samples between two others, as long as each finds room. It ends before the sweep does, before a
+// visit that would find no room, and before a value that lies below its floor, so that a step takes it up from there.
 ghost use Rattle.std.specs.Prelude.{◌≡◌, ◌+◌, ◌-◌, ◌<◌, ◌≤◌, length};
+ghost use Rattle.runs.specs.declared.stage.Direction.TheVariants.{Rising, Falling};
 ghost use Rattle.sweep.specs.Passes.{Passes, finds_room, gone};
 
 use super::sweeping::Pass;
@@ -17,9 +18,7 @@ struct Run {
     lowerings: u64,
 }
 
-// Visits at most so many samples, and says how many values it lowered. The two ways apart, each with its direction written out:
-// a compiler makes of each a loop of its own, and no part of what calls it, so that it has the registers for itself.
-#[inline(never)]
+// Visits at most so many samples, and says how many values it lowered.
 pub fn sweep_on<G: Grade, L: Limit<G>>(
     cells: &mut [Cell<G>],
     limit: &L,
@@ -36,30 +35,78 @@ pub fn sweep_on<G: Grade, L: Limit<G>>(
     if visited == 0 || cells.len() - 1 > limit.span() {
         return 0;
     }
+    let end = (cells.len() - 1).min(visited.saturating_add(most));
+    match sweep.direction {
+        Direction::Rising => rise(cells, limit, sweep, end),
+        Direction::Falling => fall(cells, limit, sweep, end),
+    }
+}
+
+// The two ways apart, each with its direction written out and no part of what calls it: a compiler makes of each a loop of its own,
+// which has the registers for itself.
+#[inline(never)]
+fn rise<G: Grade, L: Limit<G>>(
+    cells: &mut [Cell<G>],
+    limit: &L,
+    sweep: &mut Sweep,
+    end: usize,
+) -> u64
+    requires way { sweep.old.direction ≡ Rising }
+    requires begun { 1 ≤ sweep.old.visited }
+    requires ahead { sweep.old.visited ≤ end }
+    requires short { end < length cells.old }
+    requires spanned { length cells.old - 1 ≤ L.Limit.span limit.now }
+    ensures within { (sweep.old.visited ≤ sweep.new.visited) × (sweep.new.visited ≤ end) }
+    ensures fewer { sweep.old.visited + result ≤ sweep.new.visited }
+    ensures passes { Passes G.Grade.rank (L.Limit.number limit.now) sweep.old sweep.new cells.old cells.new (sweep.new.visited - sweep.old.visited) result }
+{
+    go(cells, limit, sweep, Direction::Rising, end)
+}
+
+#[inline(never)]
+fn fall<G: Grade, L: Limit<G>>(
+    cells: &mut [Cell<G>],
+    limit: &L,
+    sweep: &mut Sweep,
+    end: usize,
+) -> u64
+    requires way { sweep.old.direction ≡ Falling }
+    requires begun { 1 ≤ sweep.old.visited }
+    requires ahead { sweep.old.visited ≤ end }
+    requires short { end < length cells.old }
+    requires spanned { length cells.old - 1 ≤ L.Limit.span limit.now }
+    ensures within { (sweep.old.visited ≤ sweep.new.visited) × (sweep.new.visited ≤ end) }
+    ensures fewer { sweep.old.visited + result ≤ sweep.new.visited }
+    ensures passes { Passes G.Grade.rank (L.Limit.number limit.now) sweep.old sweep.new cells.old cells.new (sweep.new.visited - sweep.old.visited) result }
+{
+    go(cells, limit, sweep, Direction::Falling, end)
+}
+
+#[inline(always)]
+fn go<G: Grade, L: Limit<G>>(
+    cells: &mut [Cell<G>],
+    limit: &L,
+    sweep: &mut Sweep,
+    direction: Direction,
+    end: usize,
+) -> u64
+    requires way { sweep.old.direction ≡ direction }
+    requires begun { 1 ≤ sweep.old.visited }
+    requires ahead { sweep.old.visited ≤ end }
+    requires short { end < length cells.old }
+    requires spanned { length cells.old - 1 ≤ L.Limit.span limit.now }
+    ensures within { (sweep.old.visited ≤ sweep.new.visited) × (sweep.new.visited ≤ end) }
+    ensures fewer { sweep.old.visited + result ≤ sweep.new.visited }
+    ensures passes { Passes G.Grade.rank (L.Limit.number limit.now) sweep.old sweep.new cells.old cells.new (sweep.new.visited - sweep.old.visited) result }
+{
     // Its own copy of the limit, which no writing to the cells can change.
     let limit = *limit;
-    let end = (cells.len() - 1).min(visited.saturating_add(most));
-    let marked = sweep.marked;
-    let run = match sweep.direction {
-        Direction::Rising => {
-            let direction = Direction::Rising;
-            let sweep = Sweep {
-                direction,
-                visited,
-                marked,
-            };
-            run_to(cells, &limit, sweep, end)
-        }
-        Direction::Falling => {
-            let direction = Direction::Falling;
-            let sweep = Sweep {
-                direction,
-                visited,
-                marked,
-            };
-            run_to(cells, &limit, sweep, end)
-        }
+    let from = Sweep {
+        direction,
+        visited: sweep.visited,
+        marked: sweep.marked,
     };
+    let run = run_to(cells, &limit, from, end);
     *sweep = run.sweep;
     run.lowerings
 }
@@ -85,6 +132,13 @@ fn run_to<G: Grade, L: Limit<G>>(cells: &mut [Cell<G>], limit: &L, sweep: Sweep,
             samples,
         }
         .next_sample();
+        let cell = cells[at];
+        if cell.value.rank() < cell.floor.rank() {
+            return Run {
+                sweep: passed,
+                lowerings,
+            };
+        }
         let found = visit_between(cells, limit, at, near);
         match found.finding {
             Finding::Keeps => {}
