@@ -5,7 +5,7 @@ ghost use Rattle.runs.specs.declared.stage.Direction.TheVariants.{Rising, Fallin
 ghost use Rattle.sweep.specs.Passes.{Passes, finds_room, gone};
 
 use super::sweeping::Pass;
-use super::visiting::visit_between;
+use super::visiting::{visit, visit_between};
 use grade::{Cell, Grade};
 use limit::Limit;
 use runs::{Direction, Finding, Sweep};
@@ -31,14 +31,48 @@ pub fn sweep_on<G: Grade, L: Limit<G>>(
     ensures fewer { sweep.old.visited + result ≤ sweep.new.visited }
     ensures passes { Passes G.Grade.rank (L.Limit.number limit.now) sweep.old sweep.new cells.old cells.new (sweep.new.visited - sweep.old.visited) result }
 {
-    let visited = sweep.visited;
-    if visited == 0 || cells.len() - 1 > limit.span() {
+    let end = (cells.len() - 1).min(sweep.visited.saturating_add(most));
+    if sweep.visited >= end || cells.len() - 1 > limit.span() {
         return 0;
     }
-    let end = (cells.len() - 1).min(visited.saturating_add(most));
-    match sweep.direction {
-        Direction::Rising => rise(cells, limit, sweep, end),
-        Direction::Falling => fall(cells, limit, sweep, end),
+    let mut lowerings = 0;
+    if sweep.visited == 0 {
+        lowerings = begin(cells, limit, sweep);
+        if sweep.visited == 0 {
+            return 0;
+        }
+    }
+    lowerings
+        + match sweep.direction {
+            Direction::Rising => rise(cells, limit, sweep, end),
+            Direction::Falling => fall(cells, limit, sweep, end),
+        }
+}
+
+// Visits the first sample of a sweep, which lies between no two others, if it finds room there.
+fn begin<G: Grade, L: Limit<G>>(cells: &mut [Cell<G>], limit: &L, sweep: &mut Sweep) -> u64
+    requires fresh { sweep.old.visited ≡ 0 }
+    requires more { 1 < length cells.old }
+    ensures way { sweep.new.direction ≡ sweep.old.direction }
+    ensures within { sweep.new.visited ≤ 1 }
+    ensures fewer { result ≤ sweep.new.visited }
+    ensures passes { Passes G.Grade.rank (L.Limit.number limit.now) sweep.old sweep.new cells.old cells.new sweep.new.visited result }
+{
+    let pass = Pass {
+        sweep: *sweep,
+        samples: cells.len(),
+    };
+    match visit(cells, limit, pass.next_sample()) {
+        Finding::Clashes => 0,
+        Finding::Keeps => {
+            sweep.visited = 1;
+            0
+        }
+        Finding::Lowers(_) => {
+            sweep.visited = 1;
+            sweep.marked = true;
+            1
+        }
     }
 }
 
