@@ -157,10 +157,18 @@ fn run_to<G: Grade, L: Limit<G>>(cells: &mut [Cell<G>], limit: &L, sweep: Sweep,
     ensures passes { Passes G.Grade.rank (L.Limit.number limit.now) sweep result.sweep cells.old cells.new (result.sweep.visited - sweep.visited) result.lowerings }
 {
     let samples = cells.len();
-    let mut passed = sweep;
+    let direction = sweep.direction;
+    let mut marked = sweep.marked;
     let mut lowerings = 0;
     let mut near = limit.place(Pass { sweep, samples }.next_sample());
-    for visited in sweep.visited..end {
+    // Counted down to none, which is told as it is counted.
+    let mut left = end - sweep.visited;
+    while left > 0 {
+        let passed = Sweep {
+            direction,
+            visited: end - left,
+            marked,
+        };
         let at = Pass {
             sweep: passed,
             samples,
@@ -178,7 +186,7 @@ fn run_to<G: Grade, L: Limit<G>>(cells: &mut [Cell<G>], limit: &L, sweep: Sweep,
             Finding::Keeps => {}
             Finding::Lowers(_) => {
                 lowerings += 1;
-                passed.marked = true;
+                marked = true;
             }
             Finding::Clashes => {
                 return Run {
@@ -187,11 +195,15 @@ fn run_to<G: Grade, L: Limit<G>>(cells: &mut [Cell<G>], limit: &L, sweep: Sweep,
                 };
             }
         }
-        passed.visited = visited + 1;
         near = found.near;
+        left -= 1;
     }
     Run {
-        sweep: passed,
+        sweep: Sweep {
+            direction,
+            visited: end,
+            marked,
+        },
         lowerings,
     }
 }
