@@ -12,8 +12,10 @@ use runs::{Direction, Finding, Sweep};
 
 #[derive(Clone, Copy, Debug, PartialEq, Eq)]
 struct Run {
-    // The sweep after it.
-    sweep: Sweep,
+    // How many samples it left unvisited.
+    left: usize,
+    // Whether the sweep is marked after it.
+    marked: bool,
     // How many values it lowered.
     lowerings: u64,
 }
@@ -141,7 +143,8 @@ fn go<G: Grade, L: Limit<G>>(
         marked: sweep.marked,
     };
     let run = run_to(cells, &limit, from, end);
-    *sweep = run.sweep;
+    sweep.visited = end - run.left;
+    sweep.marked = run.marked;
     run.lowerings
 }
 
@@ -152,16 +155,16 @@ fn run_to<G: Grade, L: Limit<G>>(cells: &mut [Cell<G>], limit: &L, sweep: Sweep,
     requires ahead { sweep.visited ≤ end }
     requires short { end < length cells.old }
     requires spanned { length cells.old - 1 ≤ L.Limit.span limit.now }
-    ensures within { (sweep.visited ≤ result.sweep.visited) × (result.sweep.visited ≤ end) }
-    ensures fewer { sweep.visited + result.lowerings ≤ result.sweep.visited }
-    ensures passes { Passes G.Grade.rank (L.Limit.number limit.now) sweep result.sweep cells.old cells.new (result.sweep.visited - sweep.visited) result.lowerings }
+    ensures within { result.left ≤ end - sweep.visited }
+    ensures fewer { sweep.visited + result.lowerings ≤ end - result.left }
+    ensures passes { Passes G.Grade.rank (L.Limit.number limit.now) sweep (record { direction = sweep.direction; visited = end - result.left; marked = result.marked }) cells.old cells.new (end - result.left - sweep.visited) result.lowerings }
 {
     let samples = cells.len();
     let direction = sweep.direction;
     let mut marked = sweep.marked;
     let mut lowerings = 0;
     let mut near = limit.place(Pass { sweep, samples }.next_sample());
-    // Counted down to none, which is told as it is counted.
+    // Counted down to none, since that is told in the counting.
     let mut left = end - sweep.visited;
     while left > 0 {
         let passed = Sweep {
@@ -177,7 +180,8 @@ fn run_to<G: Grade, L: Limit<G>>(cells: &mut [Cell<G>], limit: &L, sweep: Sweep,
         let cell = cells[at];
         if cell.value.rank() < cell.floor.rank() {
             return Run {
-                sweep: passed,
+                left,
+                marked,
                 lowerings,
             };
         }
@@ -190,7 +194,8 @@ fn run_to<G: Grade, L: Limit<G>>(cells: &mut [Cell<G>], limit: &L, sweep: Sweep,
             }
             Finding::Clashes => {
                 return Run {
-                    sweep: passed,
+                    left,
+                    marked,
                     lowerings,
                 };
             }
@@ -199,11 +204,8 @@ fn run_to<G: Grade, L: Limit<G>>(cells: &mut [Cell<G>], limit: &L, sweep: Sweep,
         left -= 1;
     }
     Run {
-        sweep: Sweep {
-            direction,
-            visited: end,
-            marked,
-        },
+        left,
+        marked,
         lowerings,
     }
 }

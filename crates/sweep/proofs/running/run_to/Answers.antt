@@ -61,12 +61,3 @@ loop-left-preserved g c =
             (omega (arith, x.lowerings-is)),
       )
     ]
-
-pub returns-clause-passes : goal.returns-clause-passes
-returns-clause-passes g c =
-    let inv = c.loop-left.invariant in
-    let w = c.args.sweep in
-    let all : c.args.end ≡ c.args.end - c.loop-left.left = omega (arith, c.loop-left-test.false) in
-    passes_as g.G.Grade.rank (g.L.Limit.number c.args.limit.now) w _ (at_visit w.direction c.args.end c.loop-left.marked) c.args.cells.now c.loop-left.cells c.loop-left.cells
-    (c.args.end - c.loop-left.left - w.visited) (c.args.end - w.visited) c.loop-left.lowerings c.loop-left.lowerings
-    (ap (λ k. at_visit w.direction k c.loop-left.marked) all) refl (ap (λ k. k - w.visited) all) refl inv.3
