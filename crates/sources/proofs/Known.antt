@@ -1,5 +1,5 @@
 -- A record that is there, in the list that a limit reads.
-use Rattle.std.proofs.Common.{◌≡◌, ℕ, zero, suc, List, [], ◌∷◌, map, get_or, ℤ, pos, Some, None, ap, arith}
+use Rattle.std.proofs.Common.{◌≡◌, ℕ, zero, suc, List, [], ◌∷◌, map, get_or, ℤ, pos, Some, ap, arith}
 use Rattle.record.specs.declared.sample.Sample.{Sample}
 use Rattle.frame.specs.Views.{nth, offset_in}
 

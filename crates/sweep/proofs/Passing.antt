@@ -1,5 +1,5 @@
 -- Visits one after another, as an advance makes them.
-use Rattle.std.proofs.Common.{◌≡◌, ℕ, zero, suc, ◌+◌, ◌-◌, ◌<◌, ◌≤◌, Bool, true, false, cond, ltb, List, length, set, ℤ, pos, negsuc, sym, refl, ap, subst, ◌∙◌, arith}
+use Rattle.std.proofs.Common.{◌≡◌, ℕ, suc, ◌+◌, ◌<◌, ◌≤◌, true, cond, ltb, List, length, set, ℤ, pos, negsuc, sym, refl, ap, subst, ◌∙◌, arith}
 use Rattle.std.specs.Int.{int_min}
 use Rattle.std.proofs.lemmas.Bool.{cond-true, lt-ltb}
 use Rattle.std.proofs.lemmas.Bool.Decides.{nat_tests}
@@ -15,10 +15,10 @@ use Rattle.runs.specs.declared.stage.Stage.TheVariants.{Working}
 use Rattle.runs.specs.declared.stage.Sweep.{Sweep}
 use Rattle.runs.specs.Settings.{Setting}
 use Rattle.runs.specs.Sheets.{Sheet, Sheets, cell, values, sheet, put, with_value}
-use Rattle.runs.specs.Jobs.{Job, job, onward, marking, turned, upcoming}
+use Rattle.runs.specs.Jobs.{job, onward, marking, turned, upcoming}
 use Rattle.runs.specs.Evaluations.{found, finding, evaluated, followed, continued, finished, lowering}
 use Rattle.runs.specs.Calls.{Course, counted, advanced}
-use Rattle.sweep.specs.Visits.{found_at, lowered, Visited}
+use Rattle.sweep.specs.Visits.{lowered, Visited}
 use Rattle.sweep.specs.Passes.{replaced, further, gone, finds_room, Passes}
 
 -- asked no further than a value that is not below its floor, a limit means the same for a cell
@@ -59,16 +59,6 @@ pub lowers_one : (f : Finding) → lowering f ≤ 1
 lowers_one Keeps = omega arith
 lowers_one (Lowers r) = omega arith
 lowers_one Clashes = omega arith
-
-pub gone_on : (f : Finding) (v : Sweep) → finds_room f ≡ true → (gone f v).visited ≡ v.visited + 1
-gone_on Keeps v ok = omega arith
-gone_on (Lowers r) v ok = omega arith
-gone_on Clashes v ok = let z : ◌≡◌ {A = ℕ} 0 1 = cc in absurd (omega arith)
-
-lowers_none : (f : Finding) (i : ℕ) (s : Sheet) → finds_room f ≡ false → lowered f i s ≡ s
-lowers_none Keeps i s no_room = refl
-lowers_none (Lowers r) i s no_room = let z : ◌≡◌ {A = ℕ} 0 1 = cc in absurd (omega arith)
-lowers_none Clashes i s no_room = refl
 
 module _ {G : Type 0} (rank : G → ℕ) (number : Number) where
   -- none yet
@@ -153,10 +143,3 @@ module _ {G : Type 0} (rank : G → ℕ) (number : Number) where
       ∙ ap (further d l) (next σ m (replaced m (ranked_all rank mid) S) n (samples ∙ sym long) is (sheet_replaced m (ranked_all rank mid) S))
       ∙ ap (λ T. further d l (further e k (advanced σ n (job (Working m) u T)))) (replaced_twice m (ranked_all rank new) (ranked_all rank mid) S)
       ∙ further_twice d e l k (advanced σ n (job (Working m) u (replaced m (ranked_all rank new) S)))
-
-  -- a visit that found no room leaves the sheet as it is
-  pub passes_on : (w v : Sweep) (old mid new : List (Cell G)) (d l i : ℕ) (f : Finding) → Visited rank number mid new i f → finds_room f ≡ false
-      → Passes rank number w v old mid d l → Passes rank number w v old new d l
-  passes_on w v old mid new d l i f visited no_room before σ m S k samples is here =
-      before σ m S k samples is here
-      ∙ ap (λ s. further d l (advanced σ k (job (Working m) v (replaced m s S)))) (sym (visited.sheet ∙ lowers_none f i (ranked_all rank mid) no_room))

@@ -1,4 +1,4 @@
-use Rattle.std.proofs.Common.{◌≡◌, ◌*◌, ◌/◌, ◌<◌, ◌^◌, nat_abs, pos, ◌*ℤ◌, arith, w64, SFits}
+use Rattle.std.proofs.Common.{◌/◌, ◌<◌, ◌^◌, nat_abs, pos, ◌*ℤ◌, arith, w64, SFits}
 use Rattle.std.proofs.lemmas.Int.{ints, clamps, to_z-of_z, to_z_pos}
 use Rattle.motion.proofs.Flooring.{le_true, le_false, stays_at, falls_to, product_fits}
 use Rattle.motion.proofs.floor.floor_within.Goals as goal

@@ -1,6 +1,5 @@
 use Rattle.std.proofs.Common.{◌≡◌, suc, true, refl, ap, subst, arith}
 use Rattle.runs.specs.declared.finding.Finding.TheVariants.{Keeps, Lowers}
-use Rattle.runs.specs.declared.stage.Sweep.{Sweep}
 use Rattle.runs.specs.Jobs.{onward, marking}
 use Rattle.sweep.specs.Visits.{Visited}
 use Rattle.sweep.proofs.Passing.{passes_as, passes_first}

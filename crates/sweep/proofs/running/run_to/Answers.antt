@@ -3,7 +3,7 @@ use Rattle.runs.specs.declared.finding.Finding.{Finding}
 use Rattle.runs.specs.declared.finding.Finding.TheVariants.{Keeps, Lowers}
 use Rattle.runs.specs.declared.stage.Direction.{Direction}
 use Rattle.runs.specs.declared.stage.Sweep.{Sweep}
-use Rattle.runs.specs.Jobs.{onward, marking, upcoming}
+use Rattle.runs.specs.Jobs.{upcoming}
 use Rattle.runs.specs.Evaluations.{lowering}
 use Rattle.sweep.specs.Visits.{Visited}
 use Rattle.sweep.specs.Passes.{Passes, finds_room, gone}

@@ -2,7 +2,6 @@
 use Rattle.std.proofs.Common.{◌≡◌, arith, w64, SFits}
 use Rattle.std.specs.Int.{int_min}
 use Rattle.std.proofs.lemmas.Int.{ints, clamps, to_z-of_z}
-use Rattle.grade.proofs.Ranking.{ranks_within}
 use Rattle.limit.specs.Numbers.{clamped}
 use Rattle.limit.proofs.pair.PairLimit.within.Goals as goal
 
