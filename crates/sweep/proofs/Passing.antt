@@ -1,5 +1,5 @@
 -- Visits one after another, as an advance makes them.
-use Rattle.std.proofs.Common.{◌≡◌, ℕ, suc, ◌+◌, ◌<◌, ◌≤◌, true, cond, ltb, List, length, set, ℤ, pos, negsuc, sym, refl, ap, subst, ◌∙◌, arith}
+use Rattle.std.proofs.Common.{◌≡◌, ℕ, suc, ◌+◌, ◌<◌, ◌≤◌, Bool, true, false, cond, ltb, List, length, set, ℤ, pos, negsuc, sym, refl, ap, subst, ◌∙◌, arith}
 use Rattle.std.specs.Int.{int_min}
 use Rattle.std.proofs.lemmas.Bool.{cond-true, lt-ltb}
 use Rattle.std.proofs.lemmas.Bool.Decides.{nat_tests}
@@ -19,7 +19,19 @@ use Rattle.runs.specs.Jobs.{job, onward, marking, turned, upcoming}
 use Rattle.runs.specs.Evaluations.{found, finding, evaluated, followed, continued, finished, lowering}
 use Rattle.runs.specs.Calls.{Course, counted, advanced}
 use Rattle.sweep.specs.Visits.{lowered, Visited}
-use Rattle.sweep.specs.Passes.{replaced, further, gone, finds_room, Passes}
+use Rattle.sweep.specs.Passes.{replaced, further, Passes}
+
+-- the sweep after this was found
+abbrev pub gone : Finding → Sweep → Sweep
+gone Keeps v = onward v
+gone (Lowers r) v = marking (onward v)
+gone Clashes v = v
+
+-- does a finding leave the value room?
+abbrev pub finds_room : Finding → Bool
+finds_room Keeps = true
+finds_room (Lowers r) = true
+finds_room Clashes = false
 
 -- asked no further than a value that is not below its floor, a limit means the same for a cell
 pub found_within : (c : Cell ℕ) (z : ℤ) → c.floor ≤ c.value → found c (int_min (pos c.value) z) ≡ found c z

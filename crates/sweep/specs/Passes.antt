@@ -1,17 +1,15 @@
 -- Visits of a sweep one after another, each of which finds room and none of which ends the sweep, as an advance makes them.
-use Rattle.std.specs.Prelude.{◌≡◌, ℕ, ◌+◌, Bool, true, false, List, length}
+use Rattle.std.specs.Prelude.{◌≡◌, ℕ, ◌+◌, List, length}
 use Rattle.grade.specs.declared.cell.Cell.{Cell}
 use Rattle.grade.specs.Ranks.{ranked_all}
 use Rattle.limit.specs.Numbers.{Number}
-use Rattle.runs.specs.declared.finding.Finding.{Finding}
-use Rattle.runs.specs.declared.finding.Finding.TheVariants.{Keeps, Lowers, Clashes}
 use Rattle.runs.specs.declared.stage.Make.{Make}
 use Rattle.runs.specs.declared.stage.Make.TheVariants.{Classes, Speeds}
 use Rattle.runs.specs.declared.stage.Stage.TheVariants.{Working}
 use Rattle.runs.specs.declared.stage.Sweep.{Sweep}
 use Rattle.runs.specs.Settings.{Setting}
 use Rattle.runs.specs.Sheets.{Sheet, Sheets, sheet}
-use Rattle.runs.specs.Jobs.{job, onward, marking}
+use Rattle.runs.specs.Jobs.{job}
 use Rattle.runs.specs.Calls.{Course, advanced}
 
 -- the sheets with another one of a make
@@ -22,18 +20,6 @@ replaced Speeds s S = record { classes = S.classes; speeds = s }
 -- after e evaluations and l lowerings before
 abbrev pub further : (e l : ℕ) → Course → Course
 further e l p = record { job = p.job; evaluations = e + p.evaluations; lowerings = l + p.lowerings }
-
--- the sweep after this was found
-abbrev pub gone : Finding → Sweep → Sweep
-gone Keeps v = onward v
-gone (Lowers r) v = marking (onward v)
-gone Clashes v = v
-
--- does a finding leave the value room?
-abbrev pub finds_room : Finding → Bool
-finds_room Keeps = true
-finds_room (Lowers r) = true
-finds_room Clashes = false
 
 -- d visits lead from the sweep w over the cells old to the sweep v over the cells new, and lower l values: whatever the
 -- setting and the other sheet, an advance by d more goes on from there

@@ -2,7 +2,7 @@
 // visit that would find no room, and before a value that lies below its floor, so that a step takes it up from there.
 ghost use Rattle.std.specs.Prelude.{◌≡◌, ◌+◌, ◌-◌, ◌<◌, ◌≤◌, length};
 ghost use Rattle.runs.specs.declared.stage.Direction.TheVariants.{Rising, Falling};
-ghost use Rattle.sweep.specs.Passes.{Passes, finds_room, gone};
+ghost use Rattle.sweep.specs.Passes.{Passes};
 
 use super::sweeping::Pass;
 use super::visiting::{visit, visit_between};

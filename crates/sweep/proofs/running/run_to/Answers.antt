@@ -6,8 +6,8 @@ use Rattle.runs.specs.declared.stage.Sweep.{Sweep}
 use Rattle.runs.specs.Jobs.{upcoming}
 use Rattle.runs.specs.Evaluations.{lowering}
 use Rattle.sweep.specs.Visits.{Visited}
-use Rattle.sweep.specs.Passes.{Passes, finds_room, gone}
-use Rattle.sweep.proofs.Passing.{passes_more, passes_as}
+use Rattle.sweep.specs.Passes.{Passes}
+use Rattle.sweep.proofs.Passing.{gone, finds_room, passes_more, passes_as}
 use Rattle.sweep.proofs.running.run_to.Given.{Over}
 use Rattle.sweep.proofs.running.run_to.Goals.{in-Keeps, in-Lowers}
 use Rattle.sweep.proofs.running.run_to.Goals as goal
