@@ -9,8 +9,8 @@ ghost use Rattle.motion.specs.TorquesLemmas.{torque_low, torque_high, torque_out
 ghost use Rattle.grade.proofs.Ranking.{at_most_everywhere};
 
 use super::reading::{unbounded, value};
-use super::sides::Sides;
 use super::searching::first_row;
+use super::sides::Sides;
 use super::spaced_row::SpacedRow;
 use grade::{Cell, Speed, lower};
 use limit::{Allowed, Limit};

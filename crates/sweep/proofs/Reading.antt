@@ -27,6 +27,10 @@ module _ {G : Type 0} (rank : G → ℕ) (cells : List (Cell G)) (i : ℕ) where
       let l : i < length (take n cells) = rw (length-take-le n cells fit) h in
       ap (λ c. rank c.value) (sym (get_or-take n cells i d h)) ∙ ap (λ c. c.value) (sym (get_or-map (ranked rank) (take n cells) i d blank l))
 
+  -- x is the cell that the code read
+  pub cell_read : (x : Cell G) → x ≡ get_or cells i x → i < length cells → cell (ranked_all rank cells) i ≡ ranked rank x
+  cell_read x read h = cell_ranked x h ∙ ap (ranked rank) (sym read)
+
   -- a cell that was changed in its place, as f changes its ranks
   pub changed : (d y : Cell G) (f : Cell ℕ → Cell ℕ) → i < length cells → ranked rank y ≡ f (ranked rank (get_or cells i d))
       → ranked_all rank (set cells i y) ≡ set (ranked_all rank cells) i (f (cell (ranked_all rank cells) i))

@@ -46,14 +46,14 @@ loop-left-preserved g c =
     let n = c.args.end - c.loop-left.left in
     let next : c.args.end - (c.loop-left.left - 1) ≡ suc n = omega arith in
     elim c.match-found.branch [
-      in-Keeps x ↦ (
+      | in-Keeps x ↦ (
         omega arith,
         omega (arith, x.lowerings-is, inv.1),
         c.visit_between-found.auto.cells ∙ inv.2,
         more g c Keeps x.in-Keeps.is refl (ap (λ b. at_visit w.direction (c.args.end - (c.loop-left.left - 1)) b) x.marked-is ∙ ap (λ k. at_visit w.direction k c.loop-left.marked) next)
             (omega (arith, x.lowerings-is)),
       )
-    | in-Lowers x ↦ (
+      | in-Lowers x ↦ (
         omega arith,
         omega (arith, x.lowerings-is, inv.1),
         c.visit_between-found.auto.cells ∙ inv.2,

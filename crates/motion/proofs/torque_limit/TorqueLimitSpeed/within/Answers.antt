@@ -16,8 +16,12 @@ pub loop-k-init : goal.loop-k-init
 loop-k-init g c =
     let f = c.ranges.most in
     let left = c.first-left.ensures in
-    simp to_z-of_z (c.requires.least, c.requires.top, ap (int_min (clamped c.args.most))
-    (rest_left (g.R.Rows.sound c.args.self.now.rows) (ranks speed_rank c.args.cells.now) c.args.at c.first-left.result (omega arith) (left.within, left.before, left.found)))
+    simp to_z-of_z (
+      c.requires.least,
+      c.requires.top,
+      ap (int_min (clamped c.args.most))
+          (rest_left (g.R.Rows.sound c.args.self.now.rows) (ranks speed_rank c.args.cells.now) c.args.at c.first-left.result (omega arith) (left.within, left.before, left.found)),
+    )
 
 pub within-number-requires-clause-fits : goal.within-number-requires-clause-fits
 within-number-requires-clause-fits g c = c.on_right.ensures.fits
@@ -39,10 +43,13 @@ loop-k-preserved g c =
     let l : c.loop-k.k < length (g.R.Rows.rows c.args.self.now.rows) = omega arith in
     let f : SFits w64 c.within-number.result = omega (arith, ints, c.within-number.type_inv) in
     let fm = c.ranges.most in
-    simp to_z-of_z (within.least, omega (arith, ints, clamps),
-    rest_next_right (g.R.Rows.sound c.args.self.now.rows) (ranks speed_rank c.args.cells.now) c.args.at c.loop-k.k l c.first-left.result c.first-here.result c.requires.after_first (omega (arith, many))
-    (left.within, left.before, left.found) (here.within, here.before, here.found) c.loop-k.auto.k c.loop-k-test.true _ _ _ c.on_right.result (speed_rank c.value-before.result)
-    (simp to_z-of_z at inv.2) c.on_right.ensures.is c.value-before.ensures within.lesser)
+    simp to_z-of_z (
+      within.least,
+      omega (arith, ints, clamps),
+      rest_next_right (g.R.Rows.sound c.args.self.now.rows) (ranks speed_rank c.args.cells.now) c.args.at c.loop-k.k l c.first-left.result c.first-here.result c.requires.after_first (omega (arith, many))
+          (left.within, left.before, left.found) (here.within, here.before, here.found) c.loop-k.auto.k c.loop-k-test.true _ _ _ c.on_right.result (speed_rank c.value-before.result)
+          (simp to_z-of_z at inv.2) c.on_right.ensures.is c.value-before.ensures within.lesser,
+    )
 
 pub loop-k-2-init : goal.loop-k-2-init
 loop-k-2-init g c =
@@ -52,7 +59,7 @@ loop-k-2-init g c =
     let sound = g.R.Rows.sound c.args.self.now.rows in
     let p = ranks speed_rank c.args.cells.now in
     let ordered = in_order sound p c.args.at (c.args.at - 1) c.args.at c.first-left.result c.first-here.result (omega arith)
-        (left.within, left.before, left.found) (here.within, here.before, here.found) in
+    (left.within, left.before, left.found) (here.within, here.before, here.found) in
     let end = c.loop-k.auto.k-end ordered in
     let k : c.loop-k.k ≡ c.first-here.result = omega (arith, c.loop-k-test.false) in
     rw (sym k) inv
@@ -77,10 +84,13 @@ loop-k-2-preserved g c =
     let l : c.loop-k-2.k < length (g.R.Rows.rows c.args.self.now.rows) = omega arith in
     let f : SFits w64 c.within-number-in-loop-k-2.result = omega (arith, ints, c.within-number-in-loop-k-2.type_inv) in
     let fm = c.ranges.most in
-    simp to_z-of_z (within.least, omega (arith, ints, clamps),
-    rest_next_left (g.R.Rows.sound c.args.self.now.rows) (ranks speed_rank c.args.cells.now) c.args.at c.loop-k-2.k l c.first-here.result c.first-past.result (omega (arith, many))
-    (here.within, here.before, here.found) (past.within, past.before, past.found) c.loop-k-2.auto.k c.loop-k-2-test.true _ _ _ c.on_left.result (speed_rank c.value-after.result)
-    (simp to_z-of_z at inv.2) c.on_left.ensures.is c.value-after.ensures within.lesser)
+    simp to_z-of_z (
+      within.least,
+      omega (arith, ints, clamps),
+      rest_next_left (g.R.Rows.sound c.args.self.now.rows) (ranks speed_rank c.args.cells.now) c.args.at c.loop-k-2.k l c.first-here.result c.first-past.result (omega (arith, many))
+          (here.within, here.before, here.found) (past.within, past.before, past.found) c.loop-k-2.auto.k c.loop-k-2-test.true _ _ _ c.on_left.result (speed_rank c.value-after.result)
+          (simp to_z-of_z at inv.2) c.on_left.ensures.is c.value-after.ensures within.lesser,
+    )
 
 pub returns : goal.returns
 returns g c =
@@ -90,7 +100,7 @@ returns g c =
     let sound = g.R.Rows.sound c.args.self.now.rows in
     let p = ranks speed_rank c.args.cells.now in
     let ordered = in_order sound p c.args.at c.args.at (c.args.at + 1) c.first-here.result c.first-past.result (omega arith)
-        (here.within, here.before, here.found) (past.within, past.before, past.found) in
+    (here.within, here.before, here.found) (past.within, past.before, past.found) in
     let end = c.loop-k-2.auto.k-end ordered in
     let k : c.loop-k-2.k ≡ c.first-past.result = omega (arith, c.loop-k-2-test.false) in
     let h = g.R.Rows.spacing c.args.self.now.rows in
