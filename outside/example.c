@@ -3,11 +3,13 @@
 #include <stdio.h>
 #include <stdlib.h>
 
-enum { SAMPLES = 4096, FRAME_BYTES = 15 + 20 * SAMPLES + 12 * (SAMPLES - 1) + 24 * 8192 };
+enum { SAMPLES = 4096, ROWS = 8192, FRAME_BYTES = 15 + 20 * SAMPLES + 12 * (SAMPLES - 1) + 24 * ROWS };
 
 static uint8_t frame[FRAME_BYTES], setpoints[7 + 3 * SAMPLES];
 static furqyzet_class_cell classes[SAMPLES];
 static furqyzet_speed_cell speeds[SAMPLES];
+static furqyzet_sample_bounds samples[SAMPLES];
+static furqyzet_row_bounds rows[ROWS];
 
 int main(int count, char **words)
 {
@@ -23,8 +25,10 @@ int main(int count, char **words)
     furqyzet_make(frame, size, classes, SAMPLES, speeds, SAMPLES, &job, &refusal);
     if (refusal.number)
         return fprintf(stderr, "refused: question %u at byte %llu\n", refusal.number, (unsigned long long)refusal.place), 1;
+    furqyzet_prepare(frame, size, samples, SAMPLES, rows, ROWS);
     while (job.state < FURQYZET_SETTLED && each > 0) {
-        furqyzet_advance(frame, size, classes, SAMPLES, speeds, SAMPLES, &job, each, &answer);
+        furqyzet_advance_prepared(frame, size, samples, SAMPLES, rows, ROWS, classes, SAMPLES, speeds, SAMPLES, &job, each,
+                                  &answer);
         evaluations += answer.evaluations;
         cycles++;
     }

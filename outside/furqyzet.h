@@ -38,6 +38,14 @@ typedef struct { uint32_t value, cap, floor; } furqyzet_speed_cell;
 enum { FURQYZET_CLASSES, FURQYZET_SPEEDS };
 enum { FURQYZET_WORKING_ON_CLASSES, FURQYZET_WORKING_ON_SPEEDS, FURQYZET_SETTLED, FURQYZET_IMPOSSIBLE };
 
+/* What a prepared frame keeps of one sample: how far its squared speed may lie above that of the sample before and of the sample
+ * after (0 where there is none), the offset of its average, and how many torque rows lie at gaps before it. 16 bytes. */
+typedef struct { uint32_t up, down; int32_t offset; uint32_t first_row; } furqyzet_sample_bounds;
+
+/* And of one torque row, with x the squared speed of the sample before its gap and y of the one after: after y <= before x + right,
+ * and before x <= after y + left. 24 bytes. */
+typedef struct { uint32_t before, after; int64_t left, right; } furqyzet_row_bounds;
+
 /* A job: how many samples it has, the sample at which it was found impossible (else 0), how many samples its sweep has visited,
  * its state (above), whether the sweep falls and whether it is marked (0 or 1). All zero: no job. Each call asks whether the
  * words are a job's: 2 to 4096 samples, fewer visited than there are, a state up to 3, `falling` and `marked` 0 or 1, `spare` 0,
@@ -81,6 +89,20 @@ void furqyzet_run(const uint8_t *frame, size_t size, furqyzet_class_cell *classe
  * frame is one that furqyzet_check accepts: with any other nothing is promised. Refuses by 255, 50, 51 and 62, in `answer`. */
 void furqyzet_advance(const uint8_t *frame, size_t size, furqyzet_class_cell *classes, size_t n, furqyzet_speed_cell *speeds,
                       size_t m, furqyzet_job *job, uint64_t allowance, furqyzet_answer *answer);
+
+/* Prepares a frame: works out once what bounds each sample and each torque row, and writes it to the front of both memories, one
+ * element for each; the rest is left as it was. Returns 1, or 0 where a memory has fewer elements than the frame has samples or
+ * rows: then both are as they were. REQUIRES a frame that furqyzet_check accepts. */
+uint32_t furqyzet_prepare(const uint8_t *frame, size_t size, furqyzet_sample_bounds *samples, size_t p,
+                          furqyzet_row_bounds *rows, size_t q);
+
+/* The same advance, faster, under a frame that is prepared. It REQUIRES a frame that furqyzet_check accepts, and memories that
+ * furqyzet_prepare filled for a frame of the same bytes, returning 1, and that nobody has changed since: with any others nothing
+ * is promised. Each job on the frame may use them. Refuses as furqyzet_advance does. */
+void furqyzet_advance_prepared(const uint8_t *frame, size_t size, const furqyzet_sample_bounds *samples, size_t p,
+                               const furqyzet_row_bounds *rows, size_t q, furqyzet_class_cell *classes, size_t n,
+                               furqyzet_speed_cell *speeds, size_t m, furqyzet_job *job, uint64_t allowance,
+                               furqyzet_answer *answer);
 
 /* Writes the setpoint frame of a settled job, 7 + 3 x samples bytes, and returns their count; the job is spent (all zero).
  * Refuses by 255, 50, 51, 70 (not settled) and 71 (`out` too short), of no layer: then 0 is returned, and all is as it was. */

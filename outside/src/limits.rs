@@ -26,7 +26,7 @@ pub struct RowSide {
     pub factor: u32,
     pub neighbour_factor: u32,
     pub constant: i64,
-    /// 0 for the sample before, 2 for the sample after: where it stands around the sample.
+    /// `BEFORE` or `AFTER`: where it stands around the sample.
     pub neighbour: usize,
 }
 
@@ -39,8 +39,9 @@ pub struct Limits {
     pub first_sides: Vec<u32>,
 }
 
-const BEFORE: usize = 0;
-const AFTER: usize = 2;
+/// The neighbours' places in a row of three around a sample.
+pub const BEFORE: usize = 0;
+pub const AFTER: usize = 2;
 
 /// An offset that bounds nothing beside two samples that are not below zero.
 const NO_OFFSET: i64 = 2 * SPEED_TOP as i64;

@@ -67,6 +67,31 @@ pub struct Clash {
     pub is_there: u32,
 }
 
+#[repr(C)]
+#[derive(Clone, Copy, PartialEq, Eq, Debug, Default)]
+pub struct SampleBounds {
+    pub up: u32,
+    pub down: u32,
+    pub offset: i32,
+    pub first_row: u32,
+}
+
+#[repr(C)]
+#[derive(Clone, Copy, PartialEq, Eq, Debug, Default)]
+pub struct RowBounds {
+    pub before: u32,
+    pub after: u32,
+    pub left: i64,
+    pub right: i64,
+}
+
+/// The two memories that a frame is prepared in.
+#[derive(Clone, PartialEq, Eq, Debug, Default)]
+pub struct Prepared {
+    pub samples: Vec<SampleBounds>,
+    pub rows: Vec<RowBounds>,
+}
+
 /// A job and the two memories that it works on.
 #[derive(Clone, PartialEq, Eq, Debug, Default)]
 pub struct Work {
@@ -76,7 +101,7 @@ pub struct Work {
 }
 
 mod c {
-    use super::{Answer, Call, Clash, ClassCell, Job, Refusal, SpeedCell};
+    use super::{Answer, Call, Clash, ClassCell, Job, Refusal, RowBounds, SampleBounds, SpeedCell};
 
     #[link(name = "furqyzet_c", kind = "static")]
     unsafe extern "C" {
@@ -110,6 +135,29 @@ mod c {
         pub fn furqyzet_advance(
             frame: *const u8,
             size: usize,
+            classes: *mut ClassCell,
+            n: usize,
+            speeds: *mut SpeedCell,
+            m: usize,
+            job: *mut Job,
+            allowance: u64,
+            answer: *mut Answer,
+        );
+        pub fn furqyzet_prepare(
+            frame: *const u8,
+            size: usize,
+            samples: *mut SampleBounds,
+            p: usize,
+            rows: *mut RowBounds,
+            q: usize,
+        ) -> u32;
+        pub fn furqyzet_advance_prepared(
+            frame: *const u8,
+            size: usize,
+            samples: *const SampleBounds,
+            p: usize,
+            rows: *const RowBounds,
+            q: usize,
             classes: *mut ClassCell,
             n: usize,
             speeds: *mut SpeedCell,
@@ -154,6 +202,8 @@ mod c {
 
 /// What no call writes: a wrapper puts it where an answer goes, so that an answer left unwritten shows.
 const UNWRITTEN: Refusal = Refusal { layer: 77, number: 7777, place: 777_777 };
+const UNANSWERED: Answer =
+    Answer { evaluations: u64::MAX, lowerings: 0, found: 0, number: u32::MAX, class: 0, speed: 0, state: 0 };
 
 pub fn check(frame: &[u8]) -> Refusal {
     let mut refusal = UNWRITTEN;
@@ -169,6 +219,16 @@ pub fn rewrite(frame: &[u8], out: &mut [u8]) -> (u64, Refusal) {
     let mut refusal = UNWRITTEN;
     let count = unsafe { c::furqyzet_rewrite(frame.as_ptr(), frame.len(), out.as_mut_ptr(), out.len(), &mut refusal) };
     (count, refusal)
+}
+
+impl Prepared {
+    /// Prepares a frame that `check` accepts.
+    pub fn prepare(&mut self, frame: &[u8]) -> u32 {
+        let (samples, rows) = (&mut self.samples, &mut self.rows);
+        unsafe {
+            c::furqyzet_prepare(frame.as_ptr(), frame.len(), samples.as_mut_ptr(), samples.len(), rows.as_mut_ptr(), rows.len())
+        }
+    }
 }
 
 impl Work {
@@ -212,11 +272,34 @@ impl Work {
 
     /// The frame is one that `check` accepts.
     pub fn advance(&mut self, frame: &[u8], allowance: u64) -> Answer {
-        let mut answer = Answer { evaluations: u64::MAX, number: u32::MAX, ..Answer::default() };
+        let mut answer = UNANSWERED;
         unsafe {
             c::furqyzet_advance(
                 frame.as_ptr(),
                 frame.len(),
+                self.classes.as_mut_ptr(),
+                self.classes.len(),
+                self.speeds.as_mut_ptr(),
+                self.speeds.len(),
+                &mut self.job,
+                allowance,
+                &mut answer,
+            );
+        }
+        answer
+    }
+
+    /// The same under the frame prepared.
+    pub fn advance_prepared(&mut self, frame: &[u8], prepared: &Prepared, allowance: u64) -> Answer {
+        let mut answer = UNANSWERED;
+        unsafe {
+            c::furqyzet_advance_prepared(
+                frame.as_ptr(),
+                frame.len(),
+                prepared.samples.as_ptr(),
+                prepared.samples.len(),
+                prepared.rows.as_ptr(),
+                prepared.rows.len(),
                 self.classes.as_mut_ptr(),
                 self.classes.len(),
                 self.speeds.as_mut_ptr(),

@@ -1,3 +1,4 @@
+pub mod Acting
 pub mod Folding
 pub mod Lent
 pub mod Own

@@ -9,6 +9,7 @@ ghost use Rattle.furqyzet_c.specs.Performing.{ActsWords, memory};
 
 use super::answer_words::AnswerWords;
 use super::cells::{ClassCell, SpeedCell};
+use super::job_frame::JobFrame;
 use super::job_words::JobWords;
 use super::lending::{class_cells, speed_cells};
 use frame::PathFrame;
@@ -16,19 +17,19 @@ use grade::{Cell, Class, Speed};
 use runs::Call;
 
 // One call on the job whose words they are.
-fn perform_words(
-    frame: PathFrame<'_>,
+pub(crate) fn perform_words<F: JobFrame>(
+    frame: F,
     classes: &mut [Cell<Class>],
     speeds: &mut [Cell<Speed>],
     words: &mut JobWords,
     call: Call,
 ) -> AnswerWords
-    ensures { ActsWords (class_number (path_of frame.entry.bytes.now)) (speed_number (path_of frame.entry.bytes.now)) call (memory words.old classes.old speeds.old) (memory words.new classes.new speeds.new) result }
+    ensures { ActsWords (class_number (F.JobFrame.path frame)) (speed_number (F.JobFrame.path frame)) call (memory words.old classes.old speeds.old) (memory words.new classes.new speeds.new) result }
 {
     let Some(mut job) = words.job() else {
         return AnswerWords::of_no_job(*words);
     };
-    let answer = planner::call(frame, &mut job, classes, speeds, call);
+    let answer = frame.call(&mut job, classes, speeds, call);
     *words = JobWords::of(&job);
     AnswerWords::of(answer, job.stage())
 }

@@ -2,6 +2,7 @@
 #![tactic(auto)]
 
 mod advancing;
+mod advancing_prepared;
 mod allowing;
 mod answer_words;
 mod call_words;
@@ -9,11 +10,13 @@ mod capping;
 mod cells;
 mod checking;
 mod clashing;
+mod job_frame;
 mod job_words;
 mod lending;
 mod limits;
 mod making;
 mod naming;
+mod preparing;
 mod refusal_words;
 mod rewriting;
 mod running;

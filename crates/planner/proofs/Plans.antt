@@ -19,9 +19,8 @@ use Rattle.frame.specs.Paths.{Path}
 use Rattle.frame.specs.Views.{path_of}
 use Rattle.motion.specs.SpeedLimits.{speed_limit_number}
 use Rattle.sources.specs.Sources.{speed_steps, offsets_of, rows_of, class_number, speed_number}
-use Rattle.planner.specs.declared.fault.MakeFault.{MakeFault}
 use Rattle.planner.specs.Making.{MadeAs}
-use Rattle.planner.specs.Planning.{PlannedAs, PlansFrom}
+use Rattle.planner.specs.Planning.{PlannedAs}
 use Rattle.planner.proofs.Makes.{standing}
 
 -- the speed limit whose ramp, averages and rows are those of three paths
@@ -53,11 +52,17 @@ module _ (n : ℕ) (s : Start) (a b : Number) (calls : List Call) (cs cs₁ cs�
         law = subst (λ k. RunLaw (setting k a b) s calls (whole_of (held j₂ cs₂ ss₂))) w.samples_are (l.law s [] w.leads);
       }
 
--- limits that read the frame's own bytes are the path's
+-- a speed limit that reads the frame's own bytes is the path's
+pub own_speed_limit : (Q : Number → Type 0) (bs x y z : List ℕ) → x ≡ bs → y ≡ bs → z ≡ bs
+    → Q (speed_limit_of (path_of x) (path_of y) (path_of z)) → Q (speed_number (path_of bs))
+own_speed_limit Q bs x y z x-is y-is z-is q =
+    subst (λ (w : List ℕ). Q (speed_limit_of (path_of bs) (path_of bs) (path_of w))) z-is
+    (subst (λ (w : List ℕ). Q (speed_limit_of (path_of bs) (path_of w) (path_of z))) y-is
+    (subst (λ (w : List ℕ). Q (speed_limit_of (path_of w) (path_of y) (path_of z))) x-is q))
+
+-- and so are both limits
 pub own_limits : (Q : Number → Number → Type 0) (bs u x y z : List ℕ) → u ≡ bs → x ≡ bs → y ≡ bs → z ≡ bs
     → Q (class_number (path_of u)) (speed_limit_of (path_of x) (path_of y) (path_of z)) → Q (class_number (path_of bs)) (speed_number (path_of bs))
 own_limits Q bs u x y z u-is x-is y-is z-is q =
-    subst (λ (w : List ℕ). Q (class_number (path_of bs)) (speed_limit_of (path_of bs) (path_of bs) (path_of w))) z-is
-    (subst (λ (w : List ℕ). Q (class_number (path_of bs)) (speed_limit_of (path_of bs) (path_of w) (path_of z))) y-is
-    (subst (λ (w : List ℕ). Q (class_number (path_of bs)) (speed_limit_of (path_of w) (path_of y) (path_of z))) x-is
-    (subst (λ (w : List ℕ). Q (class_number (path_of w)) (speed_limit_of (path_of x) (path_of y) (path_of z))) u-is q)))
+    own_speed_limit (Q (class_number (path_of bs))) bs x y z x-is y-is z-is
+    (subst (λ (w : List ℕ). Q (class_number (path_of w)) (speed_limit_of (path_of x) (path_of y) (path_of z))) u-is q)

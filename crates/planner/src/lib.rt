@@ -4,6 +4,7 @@
 
 mod asking;
 mod calling;
+mod calling_prepared;
 mod cells;
 mod fault;
 mod filling;
@@ -13,6 +14,7 @@ mod planning;
 
 pub use asking::ask;
 pub use calling::call;
+pub use calling_prepared::call_prepared;
 pub use fault::MakeFault;
 pub use making::{make, make_or_refuse};
 pub use planning::{plan, plan_under};

@@ -1,8 +1,9 @@
 //! Memory: what a caller lends for a sample, and the stack that calls use.
 
-use crate::linked::{Answer, Call, ClassCell, Job, SpeedCell, Work};
+use crate::linked::{Answer, Call, ClassCell, Job, RowBounds, SampleBounds, SpeedCell, Work};
 use crate::paths::{Kind, random};
-use crate::speed::made;
+use crate::speed::{made, prepared};
+use outside::Path;
 use std::hint::black_box;
 
 const SIZES: [usize; 2] = [64, 4096];
@@ -53,30 +54,36 @@ fn cut(work: &mut Work, frame: &[u8]) {
     assert_eq!(answers[0].number, 0);
 }
 
-/// The stack of nothing, of a making, an advance, a cut and setpoints, on a path of so many samples.
-fn stacks(n: usize) -> [usize; 5] {
+/// The stack of nothing, of a making, a preparation, an advance under the frame prepared and one under it as it lies, a cut and
+/// setpoints, on a path of so many samples.
+fn stacks(n: usize) -> [usize; 7] {
     let frame = random(Kind::Torque, n);
-    let mut work = made(&frame, n);
+    let (mut work, mut beside) = (made(&frame, n), made(&frame, n));
+    let mut prepared = prepared(&frame, &Path::read(&frame).expect("a good frame"));
     let nothing = stack(|| {});
     let make = stack(|| assert_eq!(work.make(&frame).number, 0));
+    let prepare = stack(|| assert_eq!(prepared.prepare(&frame), 1));
+    let advance_prepared = stack(|| assert_eq!(beside.advance_prepared(&frame, &prepared, u64::MAX).number, 0));
     let advance = stack(|| assert_eq!(work.advance(&frame, u64::MAX).number, 0));
     let cut = stack(|| cut(&mut work, &frame));
     work.advance(&frame, u64::MAX);
     let mut setpoints = vec![0; 7 + 3 * n];
-    [nothing, make, advance, cut, stack(|| assert_ne!(work.setpoints(&mut setpoints).0, 0))]
+    [nothing, make, prepare, advance_prepared, advance, cut, stack(|| assert_ne!(work.setpoints(&mut setpoints).0, 0))]
 }
 
 pub fn table() {
     let (class, speed) = (size_of::<ClassCell>(), size_of::<SpeedCell>());
     println!(
-        "\nMemory lent: {} bytes a sample (class {class}, speed {speed}), and {} bytes for the job",
+        "\nMemory lent: {} bytes a sample (class {class}, speed {speed}), and {} bytes for the job; to prepare {} a sample and {} a row",
         class + speed,
-        size_of::<Job>()
+        size_of::<Job>(),
+        size_of::<SampleBounds>(),
+        size_of::<RowBounds>()
     );
     println!("Stack used at most, bytes, of which up to {MARGIN} are the measurement's own (two rows a gap)");
-    println!("{:>6} {:>8} {:>8} {:>8} {:>8} {:>10}", "n", "nothing", "make", "advance", "a cut", "setpoints");
+    let heads = ["nothing", "make", "prepare", "prepared", "in place", "a cut", "setpoints"];
+    println!("{:>6}{}", "n", heads.map(|head| format!(" {head:>10}")).concat());
     for n in SIZES {
-        let [nothing, make, advance, cut, setpoints] = stacks(n);
-        println!("{n:>6} {nothing:>8} {make:>8} {advance:>8} {cut:>8} {setpoints:>10}");
+        println!("{n:>6}{}", stacks(n).map(|bytes| format!(" {bytes:>10}")).concat());
     }
 }

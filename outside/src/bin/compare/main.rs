@@ -11,6 +11,7 @@ mod events;
 mod frames;
 mod ours;
 mod parts;
+mod prepared;
 mod random;
 mod sequences;
 mod tally;
@@ -113,6 +114,7 @@ fn report(tally: &Tally, is_whole: bool) -> ExitCode {
         .iter()
         .chain(&bounds::EVERY)
         .chain(&bounds::CLASHES)
+        .chain(&prepared::EVERY)
         .filter(|event| !tally.events.contains_key(*event))
         .map(|event| event.to_string());
     let missed: Vec<String> = refusals.chain(events).filter(|_| is_whole).collect();

@@ -4,9 +4,10 @@ use crate::bounds;
 use crate::calls;
 use crate::events;
 use crate::frames::{self, Layout};
-use crate::linked::{Answer, Call, Clash, ClassCell, SpeedCell, Work};
+use crate::linked::{Answer, Call, Clash, ClassCell, Prepared, SpeedCell, Work};
 use crate::ours::{self, ADVANCE};
 use crate::parts;
+use crate::prepared;
 use crate::random::Random;
 use crate::tally::{Case, Tally};
 use crate::wrong;
@@ -14,12 +15,14 @@ use outside::Path;
 use outside::job::{Job, State};
 
 const BEFORE: u8 = 0xa5;
+
 /// A job on both sides: `library` is its words and cells there, `expected` what they should be.
 struct Both {
     case: Case,
     frame: Vec<u8>,
     layout: Layout,
     path: Path,
+    prepared: Prepared,
     job: Job,
     library: Work,
     expected: Work,
@@ -73,7 +76,7 @@ impl Both {
         answer
     }
 
-    /// One advance that does not read the frame again.
+    /// One advance that does not read the frame again, under the frame as it lies and under the frame prepared.
     fn advance(&mut self, tally: &mut Tally, random: &Random, budget: u64) {
         let call = calls::call(random, &self.job, &self.path, budget);
         let is_advance = call.kind == ADVANCE;
@@ -83,10 +86,15 @@ impl Both {
 
     fn advance_by(&mut self, tally: &mut Tally, allowance: u64) {
         let expected = self.call(tally, Call { value: allowance, ..Call::default() });
+        let what = format!("an advance by {allowance}");
+        let mut beside = self.library.clone();
+        let answer = beside.advance_prepared(&self.frame, &self.prepared, allowance);
+        tally.same(self.case, &format!("the answer to {what} under the frame prepared"), expected, answer);
         let answer = self.library.advance(&self.frame, allowance);
-        tally.same(self.case, &format!("the answer to an advance by {allowance}"), expected, answer);
+        tally.same(self.case, &format!("the answer to {what}"), expected, answer);
         self.expect();
-        self.compare(tally, &format!("an advance by {allowance}"));
+        self.compare(tally, &what);
+        tally.same(self.case, &format!("the job and the cells after {what} under the frame prepared"), &self.expected, &beside);
     }
 
     /// A run and a making on a damaged frame change nothing.
@@ -133,10 +141,19 @@ impl Both {
     fn other_frame(&mut self, tally: &mut Tally, random: &Random, budget: u64) {
         let layout = frames::short_layout(random);
         let frame = frames::frame(random, layout);
-        let path = Path::read(&frame).expect("a good frame").for_samples(self.layout.samples);
-        let own = (std::mem::replace(&mut self.frame, frame), std::mem::replace(&mut self.path, path));
-        self.run(tally, random, budget);
-        (self.frame, self.path) = own;
+        let path = Path::read(&frame).expect("a good frame");
+        let prepared = prepared::prepare(tally, self.case, random, &frame, &path);
+        let path = path.for_samples(self.layout.samples);
+        let own = (
+            std::mem::replace(&mut self.frame, frame),
+            std::mem::replace(&mut self.path, path),
+            std::mem::replace(&mut self.prepared, prepared),
+        );
+        match random.up_to(2) {
+            0 => self.advance(tally, random, budget),
+            _ => self.run(tally, random, budget),
+        }
+        (self.frame, self.path, self.prepared) = own;
     }
 
     /// The setpoints of the job as it is: written, or refused with nothing changed.
@@ -217,7 +234,8 @@ fn make(tally: &mut Tally, case: Case, random: &Random, layout: Layout) -> Optio
     };
     events::of_making(&job).into_iter().for_each(|event| tally.happened(event));
     ours::put(&job, &mut expected);
-    let mut both = Both { case, frame, layout, path, job, library, expected };
+    let prepared = prepared::prepare(tally, case, random, &frame, &path);
+    let mut both = Both { case, frame, layout, path, prepared, job, library, expected };
     both.compare(tally, "a making");
     both.sufficient(tally);
     Some(both)
@@ -236,7 +254,7 @@ fn sequence(tally: &mut Tally, case: Case, layout: Layout, chunks: usize, budget
             0 => both.refused(tally, random),
             1 => both.setpoints(tally, random),
             2 => both.sufficient(tally),
-            3 => wrong::calls(tally, case, random, &both.library, &both.frame),
+            3 => wrong::calls(tally, case, random, &both.library, (&both.frame, &both.prepared)),
             4 => both.other_frame(tally, random, budget),
             5..=9 => both.advance(tally, random, budget),
             _ => both.run(tally, random, budget),

@@ -1,6 +1,6 @@
 //! Jobs and memories that are none or too short: each call refuses, and nothing else changes.
 
-use crate::linked::{Answer, Call, Clash, Job as Words, Work};
+use crate::linked::{Answer, Call, Clash, Job as Words, Prepared, Work};
 use crate::ours::{self, CLASS_MEMORY, NO_JOB, SPEED_MEMORY};
 use crate::random::Random;
 use crate::tally::{Case, Tally};
@@ -63,8 +63,8 @@ fn spoil(random: &Random, work: &mut Work) {
     }
 }
 
-/// Every call on a work whose words or memories are spoilt.
-pub fn calls(tally: &mut Tally, case: Case, random: &Random, work: &Work, frame: &[u8]) {
+/// Every call on a work whose words or memories are spoilt, under a frame as it lies or prepared.
+pub fn calls(tally: &mut Tally, case: Case, random: &Random, work: &Work, (frame, prepared): (&[u8], &Prepared)) {
     let mut spoilt = work.clone();
     spoil(random, &mut spoilt);
     let number = refused(&spoilt);
@@ -83,7 +83,10 @@ pub fn calls(tally: &mut Tally, case: Case, random: &Random, work: &Work, frame:
     tally.same(case, &what("the refusal of a run"), refusal, answer);
     tally.same(case, &what("the answers of a run"), [ours::UNWRITTEN; 2], answers);
     let answer = Answer { number, state: spoilt.job.state.into(), found: spoilt.job.found, ..Answer::default() };
-    tally.same(case, &what("the answer to an advance"), answer, library.advance(frame, random.up_to(9)));
+    let allowance = random.up_to(9);
+    tally.same(case, &what("the answer to an advance"), answer, library.advance(frame, allowance));
+    let prepared_answer = library.advance_prepared(frame, prepared, allowance);
+    tally.same(case, &what("the answer to an advance under the frame prepared"), answer, prepared_answer);
     let mut out = [BEFORE; 40];
     tally.same(case, &what("the answer to setpoints"), (0, ours::bare(number)), library.setpoints(&mut out));
     tally.same(case, &what("the memory of setpoints"), [BEFORE; 40], out);
