@@ -1,5 +1,5 @@
 -- Visits one after another, as an advance makes them.
-use Rattle.std.proofs.Common.{◌≡◌, ℕ, zero, suc, ◌+◌, ◌-◌, ◌<◌, ◌≤◌, max, Bool, true, false, cond, ltb, List, length, set, ℤ, pos, negsuc, sym, refl, ap, ◌∙◌, arith}
+use Rattle.std.proofs.Common.{◌≡◌, ℕ, zero, suc, ◌+◌, ◌-◌, ◌<◌, ◌≤◌, Bool, true, false, cond, ltb, List, length, set, ℤ, pos, negsuc, sym, refl, ap, subst, ◌∙◌, arith}
 use Rattle.std.specs.Int.{int_min}
 use Rattle.std.proofs.lemmas.Bool.{cond-true, lt-ltb}
 use Rattle.std.proofs.lemmas.Bool.Decides.{nat_tests}
@@ -21,11 +21,11 @@ use Rattle.runs.specs.Calls.{Course, counted, advanced}
 use Rattle.sweep.specs.Visits.{found_at, lowered, Visited}
 use Rattle.sweep.specs.Passes.{replaced, further, gone, finds_room, Passes}
 
--- asked no further than value and floor, a limit means the same for a cell
-pub found_within : (c : Cell ℕ) (z : ℤ) → found c (int_min (pos (max c.value c.floor)) z) ≡ found c z
+-- asked no further than a value that is not below its floor, a limit means the same for a cell
+pub found_within : (c : Cell ℕ) (z : ℤ) → c.floor ≤ c.value → found c (int_min (pos c.value) z) ≡ found c z
 unfolding found
-found_within c (pos r) = grind (arith, ints, clamps, nat_tests)
-found_within c (negsuc n) = refl
+found_within c (pos r) above = grind (arith, ints, clamps, nat_tests)
+found_within c (negsuc n) above = refl
 
 same_sheet : (m : Make) (S : Sheets) → replaced m (sheet S m) S ≡ S
 same_sheet Classes S = refl
@@ -38,6 +38,16 @@ sheet_replaced Speeds s S = refl
 put_replaced : (m : Make) (i : ℕ) (c : Cell ℕ) (s : Sheet) (S : Sheets) → put m i c (replaced m s S) ≡ replaced m (set s i c) S
 put_replaced Classes i c s S = refl
 put_replaced Speeds i c s S = refl
+
+replaced_twice : (m : Make) (s t : Sheet) (S : Sheets) → replaced m s (replaced m t S) ≡ replaced m s S
+replaced_twice Classes s t S = refl
+replaced_twice Speeds s t S = refl
+
+further_twice : (d e l k : ℕ) (p : Course) → further d l (further e k p) ≡ further (d + e) (l + k) p
+further_twice d e l k p =
+    let x : d + (e + p.evaluations) ≡ d + e + p.evaluations = omega arith in
+    let y : l + (k + p.lowerings) ≡ l + k + p.lowerings = omega arith in
+    ap (λ a. record { job = p.job; evaluations = a; lowerings = l + (k + p.lowerings) }) x ∙ ap (λ a. record { job = p.job; evaluations = d + e + p.evaluations; lowerings = a }) y
 
 further_none : (p : Course) → further 0 0 p ≡ p
 further_none p =
@@ -119,6 +129,30 @@ module _ {G : Type 0} (rank : G → ℕ) (number : Number) where
         let e : d + 1 + k ≡ d + suc k = omega arith in
         ap (λ n. advanced σ n (job (Working m) w S)) e ∙ before σ m S (suc k) samples is here
         ∙ ap (further d l) (one σ m S samples is k) ∙ twice (advanced σ k (job (Working m) (gone f v) (replaced m (ranked_all rank new) S))) (lowering f)
+
+  -- the same visits, by other names of where they lead
+  pub passes_as : (w v v' : Sweep) (old new new' : List (Cell G)) (d d' l l' : ℕ) → v' ≡ v → new' ≡ new → d' ≡ d → l' ≡ l → Passes rank number w v old new d l → Passes rank number w v' old new' d' l'
+  passes_as w v v' old new new' d d' l l' to is many fall p =
+      subst (λ x. Passes rank number w x old new' d' l') (sym to) (subst (λ x. Passes rank number w v old x d' l') (sym is)
+      (subst (λ x. Passes rank number w v old new x l') (sym many) (subst (λ x. Passes rank number w v old new d x) (sym fall) p)))
+
+  -- the first visit of a sweep, which found f
+  pub passes_first : (w : Sweep) (old new : List (Cell G)) (i : ℕ) (f : Finding) → w.visited ≡ 0 → 1 < length old → i ≡ upcoming (length old) w → Visited rank number old new i f → finds_room f ≡ true
+      → Passes rank number w (gone f w) old new 1 (lowering f)
+  passes_first w old new i f fresh more at visited room =
+      let none : lowering f ≡ 0 + lowering f = omega arith in
+      passes_as w (gone f w) (gone f w) old new new (0 + 1) 1 (0 + lowering f) (lowering f) refl refl refl none
+      (passes_more w w old old new 0 0 i f refl at (omega arith) visited room (passes_none w old))
+
+  -- visits, and then others
+  pub passes_then : (w v u : Sweep) (old mid new : List (Cell G)) (d e l k : ℕ) → length mid ≡ length old → Passes rank number w v old mid d l → Passes rank number v u mid new e k
+      → Passes rank number w u old new (d + e) (l + k)
+  passes_then w v u old mid new d e l k long first next σ m S n samples is here =
+      let one : d + e + n ≡ d + (e + n) = omega arith in
+      ap (λ x. advanced σ x (job (Working m) w S)) one ∙ first σ m S (e + n) samples is here
+      ∙ ap (further d l) (next σ m (replaced m (ranked_all rank mid) S) n (samples ∙ sym long) is (sheet_replaced m (ranked_all rank mid) S))
+      ∙ ap (λ T. further d l (further e k (advanced σ n (job (Working m) u T)))) (replaced_twice m (ranked_all rank new) (ranked_all rank mid) S)
+      ∙ further_twice d e l k (advanced σ n (job (Working m) u (replaced m (ranked_all rank new) S)))
 
   -- a visit that found no room leaves the sheet as it is
   pub passes_on : (w v : Sweep) (old mid new : List (Cell G)) (d l i : ℕ) (f : Finding) → Visited rank number mid new i f → finds_room f ≡ false
