@@ -119,8 +119,7 @@ fn step<H: Handler>(
     handler: &mut H,
     line: &str,
 ) -> Result<ControlFlow<Next<H::Parting>>, Stop> {
-    let words: Vec<&str> = line.split_whitespace().collect(rt.alloc())?;
-    match line_of(words.as_slice()).map_err(|fault| complain(rt, fault))? {
+    match line_of(line).map_err(|fault| complain(rt, fault))? {
         Line::Empty => {}
         Line::Frame(file) => *frame = take_frame(rt, file)?,
         Line::WritePath(length) => {

@@ -60,39 +60,46 @@ pub fn number(word: &str) -> Option<u64> {
     word.parse().ok()
 }
 
-// What a line's words say.
-pub fn line_of<'a>(words: &[&'a str]) -> Result<Line<'a>, LineFault> {
-    let Some((verb, behind)) = words.split_first() else {
+// What a line says. No more of its words are looked at than tell a call from one with too many, so that a line needs no memory.
+pub fn line_of(line: &str) -> Result<Line<'_>, LineFault> {
+    let mut words = line.split_whitespace();
+    let Some(verb) = words.next() else {
         return Ok(Line::Empty);
     };
-    call_of(verb, behind).ok_or(if VERBS.contains(verb) {
+    let behind = [words.next(), words.next(), words.next()];
+    call_of(verb, behind).ok_or_else(|| fault_of(verb))
+}
+
+// Why a verb makes no call of the words behind it.
+fn fault_of(verb: &str) -> LineFault {
+    if VERBS.contains(&verb) {
         LineFault::Broken
     } else {
         LineFault::Unknown
-    })
+    }
 }
 
-// The call of a verb with the words behind it, or nothing where they don't fit.
-fn call_of<'a>(verb: &str, behind: &[&'a str]) -> Option<Line<'a>> {
+// The call of a verb with the words behind it, of which none has three, or nothing where they don't fit.
+fn call_of<'a>(verb: &str, behind: [Option<&'a str>; 3]) -> Option<Line<'a>> {
     let call = match (verb, behind) {
-        ("frame", [file]) => return Some(Line::Frame(file)),
-        ("write-path", [length]) => return Some(Line::WritePath(number(length)?)),
-        ("make", [classes, speeds]) => {
+        ("frame", [Some(file), None, None]) => return Some(Line::Frame(file)),
+        ("write-path", [Some(length), None, None]) => return Some(Line::WritePath(number(length)?)),
+        ("make", [Some(classes), Some(speeds), None]) => {
             return Some(Line::Make(number(classes)?, number(speeds)?));
         }
-        ("cells", []) => return Some(Line::Job(JobLine::Cells)),
-        ("release", []) => return Some(Line::Job(JobLine::Release)),
-        ("setpoints", [length]) => return Some(Line::Job(JobLine::Setpoints(number(length)?))),
-        ("advance", [allowance]) => Call::Advance(number(allowance)?),
-        ("look", [sample]) => Call::Look(number(sample)?),
-        ("class-cut", [sample, value]) => Call::Cut(Make::Classes, number(sample)?, number(value)?),
-        ("speed-cut", [sample, value]) => Call::Cut(Make::Speeds, number(sample)?, number(value)?),
-        ("class-lift", [sample, value]) => Call::Lift(
+        ("cells", [None, None, None]) => return Some(Line::Job(JobLine::Cells)),
+        ("release", [None, None, None]) => return Some(Line::Job(JobLine::Release)),
+        ("setpoints", [Some(length), None, None]) => return Some(Line::Job(JobLine::Setpoints(number(length)?))),
+        ("advance", [Some(allowance), None, None]) => Call::Advance(number(allowance)?),
+        ("look", [Some(sample), None, None]) => Call::Look(number(sample)?),
+        ("class-cut", [Some(sample), Some(value), None]) => Call::Cut(Make::Classes, number(sample)?, number(value)?),
+        ("speed-cut", [Some(sample), Some(value), None]) => Call::Cut(Make::Speeds, number(sample)?, number(value)?),
+        ("class-lift", [Some(sample), Some(value), None]) => Call::Lift(
             Make::Classes,
             number(sample)?,
             number(value)?,
         ),
-        ("speed-lift", [sample, value]) => Call::Lift(
+        ("speed-lift", [Some(sample), Some(value), None]) => Call::Lift(
             Make::Speeds,
             number(sample)?,
             number(value)?,

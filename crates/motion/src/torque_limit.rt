@@ -9,6 +9,7 @@ ghost use Rattle.motion.specs.TorquesLemmas.{torque_low, torque_high, torque_out
 ghost use Rattle.grade.proofs.Ranking.{at_most_everywhere};
 
 use super::reading::{unbounded, value};
+use super::rows::Rows;
 use super::searching::first_row;
 use super::sides::Sides;
 use super::spaced_row::SpacedRow;
@@ -18,6 +19,26 @@ use limit::{Allowed, Limit};
 #[derive(Clone, Copy, Debug, PartialEq, Eq)]
 pub struct Torque<R> {
     pub rows: R,
+}
+
+impl<R: Rows> Torque<R> {
+    // What the rows of the gaps beside a sample allow, from any source of rows.
+    fn allowed(&self, cells: &[Cell<Speed>], at: usize) -> Option<Speed>
+        ensures { number_of speed_rank result ≡ torque (R.Rows.spacing self.now.rows) (R.Rows.rows self.now.rows) (ranks speed_rank cells.now) at }
+    {
+        let rows = &self.rows;
+        let h = rows.spacing();
+        let mut least: Speed = unbounded();
+        for k in first_row(rows, at)..rows.len() {
+            let row = rows.row(k);
+            if row.gap as usize > at {
+                return Some(least);
+            }
+            let spaced = SpacedRow { h, row };
+            least = lower(least, spaced.allows(cells, at)?);
+        }
+        Some(least)
+    }
 }
 
 impl<R: Sides> Limit<Speed> for Torque<R> {
@@ -32,18 +53,7 @@ impl<R: Sides> Limit<Speed> for Torque<R> {
     ghost monotone = { λ l p q wp wq len le i. torque_mono (R.Rows.spacing l.rows) (R.Rows.rows l.rows) p q len (at_most_everywhere p q len le) i };
 
     fn evaluate(&self, cells: &[Cell<Speed>], at: usize) -> Option<Speed> {
-        let rows = &self.rows;
-        let h = rows.spacing();
-        let mut least: Speed = unbounded();
-        for k in first_row(rows, at)..rows.len() {
-            let row = rows.row(k);
-            if row.gap as usize > at {
-                return Some(least);
-            }
-            let spaced = SpacedRow { h, row };
-            least = lower(least, spaced.allows(cells, at)?);
-        }
-        Some(least)
+        self.allowed(cells, at)
     }
 
     ghost span = { λ l. R.Sides.span l.rows - 1 };
@@ -76,7 +86,7 @@ impl<R: Sides> Limit<Speed> for Torque<R> {
 }
 
 // What one row allows, by its number; the top where there is no such row.
-pub fn row_bound<R: Sides>(
+pub fn row_bound<R: Rows>(
     limit: &Torque<R>,
     row: usize,
     cells: &[Cell<Speed>],
@@ -100,18 +110,18 @@ pub fn row_bound<R: Sides>(
 
 // A profile keeps the rows exactly when each row whose two samples are there says of them
 // 2h × lo ≤ d × (w(i + 1) − w(i)) + 2h × (c × w(i) + g) ≤ 2h × hi.
-pub fn torque_kept_exactly<R: Sides>(limit: &Torque<R>)
+pub fn torque_kept_exactly<R: Rows>(limit: &Torque<R>)
     ensures { KeptExactly speed_top (torque (R.Rows.spacing limit.now.rows) (R.Rows.rows limit.now.rows)) (WithinTorque (R.Rows.spacing limit.now.rows) (R.Rows.rows limit.now.rows)) }
 {}
 
 // What rows give is the greatest squared speed at the sample that keeps the side of each row that bounds it, its
 // neighbours as they are.
-pub fn torque_greatest<R: Sides>(
+pub fn torque_greatest<R: Rows>(
     limit: &Torque<R>,
     cells: &[Cell<Speed>],
     at: usize,
 ) -> Option<Speed>
     ensures { Greatest speed_rank speed_top (WithinTorqueAt (R.Rows.spacing limit.now.rows) (R.Rows.rows limit.now.rows) (ranks speed_rank cells.now) at) result }
 {
-    limit.evaluate(cells, at)
+    limit.allowed(cells, at)
 }

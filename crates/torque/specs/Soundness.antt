@@ -26,6 +26,10 @@ weighs d e = nat_lt 0 (unsigned_abs d) && weighing d e
 abbrev pub sound_row : ℕ → Row → Bool
 sound_row h r = small_row r && weighs r.d (weight h r)
 
+-- a row that is sound, and lies at no gap before that of the row before it
+abbrev pub in_turn : ℕ → Row → Row → Bool
+in_turn h before r = nat_le before.gap r.gap && sound_row h r
+
 -- after a row at the gap last
 abbrev pub sound_from : ℕ → ℕ → List Row → Bool
 sound_from h last [] = true

@@ -1,16 +1,27 @@
 // Whether rows are sound: small numbers, weights that are not 0 and of one sign, gaps that never fall.
 ghost use Rattle.std.specs.Prelude.{◌≡◌, true, ◌↔◌};
 ghost use Rattle.torque.specs.Rows.{Sound, SoundRows};
-ghost use Rattle.torque.specs.Soundness.{small, small_row, sound_row, sound_rows};
+ghost use Rattle.torque.specs.Soundness.{small, small_row, sound_row, in_turn, sound_rows};
 
 use super::row::Row;
 
-// Whether rows are sound at spacing h, and by gap.
+// Whether rows are sound at spacing h, and by gap: in one pass, up to the first row that is not sound or lies at a gap before
+// another's.
 pub fn are_sound(h: u16, rows: &[Row]) -> bool
     ensures test { result ≡ sound_rows h rows.now }
     ensures exactly { (result ≡ true) ↔ SoundRows h rows.now }
 {
-    rows.iter().all(|row| is_sound(h, *row)) && rows.is_sorted_by_key(|row| row.gap)
+    let [first, ..] = rows else {
+        return true;
+    };
+    is_sound(h, *first) && rows.is_sorted_by(|before, row| follows(h, *before, *row))
+}
+
+// Whether a row is sound at spacing h, and lies at no gap before that of the row before it.
+fn follows(h: u16, before: Row, row: Row) -> bool
+    ensures { result ≡ in_turn h before row }
+{
+    before.gap <= row.gap && is_sound(h, row)
 }
 
 // Whether one row is sound at spacing h.

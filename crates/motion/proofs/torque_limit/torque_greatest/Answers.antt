@@ -9,4 +9,4 @@ returns g c =
     let rows = c.args.limit.now.rows in
     greatest_by speed_rank speed_top (λ x. x.ok) _ _
     (λ x l. under_torque (g.R.Rows.spacing rows) (ranks speed_rank c.args.cells.now) c.args.at x l (g.R.Rows.rows rows) (g.R.Rows.sound rows))
-    c.evaluate.result c.evaluate.ensures
+    c.allowed.result c.allowed.ensures

@@ -1,27 +1,14 @@
-use Rattle.std.proofs.Common.{rules, ◌≡◌, tests}
-use Rattle.std.specs.List.{list_all}
+use Rattle.std.proofs.Common.{rules, tests}
 use Rattle.std.proofs.lemmas.Bool.Decides.{same_from_decides}
-use Rattle.std.proofs.lemmas.Iterator.{YieldsList-from_slice}
-use Rattle.std.proofs.lemmas.Iterator.Search.{all_from_yields_List}
-use Rattle.std.proofs.lemmas.List.Sorted.{answers_always}
-use Rattle.torque.specs.declared.row.Row.{Row}
-use Rattle.torque.specs.Soundness.{sound_row, are_sound_lem, sound_are}
-use Rattle.torque.proofs.Sorting.{Decides-rising, Decides-in_order, Decides-unsound}
+use Rattle.std.proofs.lemmas.Fn.{always_returns_same}
+use Rattle.torque.specs.Soundness.{in_turn, are_sound_lem, sound_are}
+use Rattle.torque.proofs.Sorting.{Decides-in_turn}
 use Rattle.torque.proofs.soundness.are_sound.Goals as goal
 
-pub returns-then-all : goal.returns-then-all
-returns-then-all c =
+pub returns-then-is_sound : goal.returns-then-is_sound
+returns-then-is_sound c =
     let h = c.args.h in
     let rows = c.args.rows.now in
-    let each : c.all.result ≡ list_all (sound_row h) rows = all_from_yields_List (sound_row h) _ _ c.all.result c.all.ensures.ran (YieldsList-from_slice rows cc) (λ x b q k. search (rules, tests)) in
-    let order = Decides-rising rows _ (c.is_sorted_by_key.ensures.cases (λ (r : Row). r.gap) (answers_always _ _ _ (λ f a r g h. search rules))) in
-    let all = Decides-in_order h rows _ each c.if-all.true _ order in
-    record { test = same_from_decides _ _ all (are_sound_lem h rows, sound_are h rows); exactly = all }
-
-pub returns-else-all : goal.returns-else-all
-returns-else-all c =
-    let h = c.args.h in
-    let rows = c.args.rows.now in
-    let each : c.all.result ≡ list_all (sound_row h) rows = all_from_yields_List (sound_row h) _ _ c.all.result c.all.ensures.ran (YieldsList-from_slice rows cc) (λ x b q k. search (rules, tests)) in
-    let all = Decides-unsound h rows _ each c.if-all.false in
+    let turns = c.is_sorted_by.ensures.cases (in_turn h) (always_returns_same _ _ _ (λ a r g k. search (rules, tests))) in
+    let all = Decides-in_turn h rows (λ l. c.is_sound.ensures.exactly.0 c.if-is_sound.true) _ turns in
     record { test = same_from_decides _ _ all (are_sound_lem h rows, sound_are h rows); exactly = all }

@@ -1,7 +1,7 @@
 use Rattle.std.proofs.Common.{arith}
 use Rattle.grade.specs.Ranks.{ranks, speed_rank}
 use Rattle.motion.proofs.Scanning.{rest_first, sound_row_lem, rest_more, rest_nothing, rest_past}
-use Rattle.motion.proofs.torque_limit.TorqueLimitSpeed.evaluate.Goals as goal
+use Rattle.motion.proofs.torque_limit.Torque.allowed.Goals as goal
 
 pub loop-k-init : goal.loop-k-init
 loop-k-init g c =

@@ -2,7 +2,7 @@ use Rattle.std.proofs.Common.{◌≡◌, drop, pos}
 use Rattle.std.specs.Int.{int_min}
 use Rattle.grade.specs.Ranks.{ranks, speed_rank}
 use Rattle.motion.specs.Torques.{allows, least, torque}
-use Rattle.motion.proofs.torque_limit.TorqueLimitSpeed.evaluate.Given as goal
+use Rattle.motion.proofs.torque_limit.Torque.allowed.Given as goal
 
 -- the least so far and what the rows left allow give the number
 abbrev pub invariant-loop-k : goal.invariant-loop-k
