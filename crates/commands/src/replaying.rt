@@ -9,7 +9,7 @@ ghost use Rattle.commands.specs.declared.replaying.Next.TheVariants as ended;
 use super::answering::print_made;
 use super::handlers::{NoJob, with_job};
 use super::made::Made;
-use super::script::{JobLine, Line, line_of};
+use super::script::{JobLine, Line, LineFault, line_of};
 use console::{
     Place, Stop, break_off, bytes, cells, complain, load, load_text, print_unmade, write_path,
 };
@@ -99,7 +99,12 @@ impl<'a> Script<'a> {
         for line in &mut self.lines {
             let index = self.read;
             self.read = index.saturating_add(1);
-            match step(rt, &mut self.frame, handler, line) {
+            let said = line_of(line);
+            // Apart from the others, since there may be very many.
+            if let Ok(Line::Empty) = said {
+                continue;
+            }
+            match step(rt, &mut self.frame, handler, said) {
                 Ok(ControlFlow::Continue(())) => {}
                 Ok(ControlFlow::Break(next)) => return Ok(Some(next)),
                 Err(stop) => {
@@ -112,26 +117,27 @@ impl<'a> Script<'a> {
     }
 }
 
-// One line of a script.
+// What a line of a script asks for.
 fn step<H: Handler>(
     rt: &HostRuntime,
     frame: &mut Vec<u8>,
     handler: &mut H,
-    line: &str,
+    said: Result<Line<'_>, LineFault>,
 ) -> Result<ControlFlow<Next<H::Parting>>, Stop> {
-    match line_of(line).map_err(|fault| complain(rt, fault))? {
-        Line::Empty => {}
-        Line::Frame(file) => *frame = take_frame(rt, file)?,
-        Line::WritePath(length) => {
+    match said {
+        Err(fault) => return Err(complain(rt, fault)),
+        Ok(Line::Empty) => {}
+        Ok(Line::Frame(file)) => *frame = take_frame(rt, file)?,
+        Ok(Line::WritePath(length)) => {
             let mut memory = lend(rt, length)?;
             write_path(rt, frame.as_slice(), memory.as_mut_slice())?;
         }
-        Line::Make(classes, speeds) => {
+        Ok(Line::Make(classes, speeds)) => {
             if let Some(made) = make_job(rt, frame.as_slice(), classes, speeds)? {
                 return Ok(ControlFlow::Break(Next::Made(made)));
             }
         }
-        Line::Job(line) => {
+        Ok(Line::Job(line)) => {
             if let ControlFlow::Break(parting) = handler.answer(rt, line)? {
                 return Ok(ControlFlow::Break(Next::Parted(parting)));
             }

@@ -89,11 +89,21 @@ fn call_of<'a>(verb: &str, behind: [Option<&'a str>; 3]) -> Option<Line<'a>> {
         }
         ("cells", [None, None, None]) => return Some(Line::Job(JobLine::Cells)),
         ("release", [None, None, None]) => return Some(Line::Job(JobLine::Release)),
-        ("setpoints", [Some(length), None, None]) => return Some(Line::Job(JobLine::Setpoints(number(length)?))),
+        ("setpoints", [Some(length), None, None]) => return Some(Line::Job(JobLine::Setpoints(
+            number(length)?,
+        ))),
         ("advance", [Some(allowance), None, None]) => Call::Advance(number(allowance)?),
         ("look", [Some(sample), None, None]) => Call::Look(number(sample)?),
-        ("class-cut", [Some(sample), Some(value), None]) => Call::Cut(Make::Classes, number(sample)?, number(value)?),
-        ("speed-cut", [Some(sample), Some(value), None]) => Call::Cut(Make::Speeds, number(sample)?, number(value)?),
+        ("class-cut", [Some(sample), Some(value), None]) => Call::Cut(
+            Make::Classes,
+            number(sample)?,
+            number(value)?,
+        ),
+        ("speed-cut", [Some(sample), Some(value), None]) => Call::Cut(
+            Make::Speeds,
+            number(sample)?,
+            number(value)?,
+        ),
         ("class-lift", [Some(sample), Some(value), None]) => Call::Lift(
             Make::Classes,
             number(sample)?,
